@@ -1,0 +1,223 @@
+-- What an accepted input guarantees: refusal 1 has let the state in, the fields are within the rules, and the call has at most six
+-- outputs. Assumes nothing.
+use Prim.Native.Nat.{ℕ, suc, _≤_, _<_}
+use mathlib.Core.Path.{_≡_, refl, sym, _∙_}
+use mathlib.Core.List.{List, []}
+use mathlib.Core.Bool.{Bool, true, false, _&&_, _||_, not, true≢false, false≢true}
+use native.Mathlib.Omega.{arith}
+use lib.ListN.{length, getD}
+use lib.Dec.{eqb, ltb, leb}
+use borrow.Author.Tests.{not-true, not-false, ltb-true, leb-true, eqb-true, eqb-false, eq-eqb, le-leb}
+use Rattle.words.specs.Choice.{if_then_else_, all-below, all-zero}
+use Rattle.words.proofs.Choice.{and-left, and-right}
+use Rattle.roll.specs.Weighing.{roll-fits, own-fits, total-of, most-kiosks, proposer}
+use Rattle.rules.specs.declared.Phase.{Phase}
+use Rattle.rules.specs.declared.Phase.the-variants.{Fresh, Running, Settled}
+use Rattle.rules.specs.declared.Input.{Input}
+use Rattle.rules.specs.declared.Rule.the-variants.{Nothing}
+use Rattle.rules.specs.State.{is-fresh, is-running, is-settled, settled-round, is-propose, is-prevote, most-rounds}
+use Rattle.rules.specs.Log.{Desk, desk, heard, table-length}
+use Rattle.rules.specs.Doing.{current, step, own}
+use Rattle.rules.specs.Rules.{first-rule, is-rule}
+use Rattle.rules.specs.Work.{work, worked}
+use Rattle.rules.specs.Acts.{Ready, Readable}
+use Rattle.rules.proofs.ByRule.{not-a-rule}
+use Rattle.rules.proofs.Six.{Unheard, six-running, six-fresh}
+use Rattle.journal.specs.Layout.{header-length}
+use Rattle.kiosk.specs.declared.Kiosk.{Kiosk}
+use Rattle.kiosk.specs.declared.Answer.{Answer}
+use Rattle.kiosk.specs.declared.Answer.the-variants.{Accepted, Impossible, AlreadySettled, OutOfOrder, OtherHeight, BadField, OwnNumber, NotProposer, HeardSame, HeardOther, TimerNotDue, LastRound, NoRoom, HeaderShort, Damaged, BadRoll}
+use Rattle.kiosk.specs.Answers.{is-accepted}
+use Rattle.kiosk.specs.Possible.{held-fits, round-fits, silent, fresh-fits, at-rest, desk-fits, used-fits}
+use Rattle.kiosk.specs.Refusals.{is-start, is-proposal, is-vote, is-timer, kind-fits, fields-fit, place-heard, same-heard, timer-due, refused-message, refused-input, judged}
+
+-- only Accepted is number 0
+pub accepted-is : (a : Answer) → is-accepted a ≡ true → a ≡ Accepted
+accepted-is Accepted e = refl
+accepted-is Impossible e = absurd (false≢true e)
+accepted-is AlreadySettled e = absurd (false≢true e)
+accepted-is OutOfOrder e = absurd (false≢true e)
+accepted-is OtherHeight e = absurd (false≢true e)
+accepted-is BadField e = absurd (false≢true e)
+accepted-is OwnNumber e = absurd (false≢true e)
+accepted-is NotProposer e = absurd (false≢true e)
+accepted-is HeardSame e = absurd (false≢true e)
+accepted-is HeardOther e = absurd (false≢true e)
+accepted-is TimerNotDue e = absurd (false≢true e)
+accepted-is LastRound e = absurd (false≢true e)
+accepted-is NoRoom e = absurd (false≢true e)
+accepted-is HeaderShort e = absurd (false≢true e)
+accepted-is (Damaged place) e = absurd (false≢true e)
+accepted-is BadRoll e = absurd (false≢true e)
+
+-- past a refusal that is not given
+past : (b : Bool) (x y : Answer) → is-accepted x ≡ false → is-accepted (if b then x else y) ≡ true → (b ≡ false) × (is-accepted y ≡ true)
+past true x y off e = absurd (true≢false (sym e ∙ off))
+past false x y off e = (refl, e)
+
+-- ## What refusal 1 has looked at
+
+pub record Fits (d : Desk) : Type 0 where
+  pub some-kiosks : 1 ≤ d .state .roll .kiosks
+  pub few-kiosks : d .state .roll .kiosks ≤ 32
+  pub own-on-roll : own d < d .state .roll .kiosks
+  pub places : length (d .table) ≡ table-length
+  pub round : current d < d .rounds
+  pub settled : settled-round (d .state .phase) < d .rounds
+  pub rounds-fit : all-below (d .rounds) (λ r. round-fits d r) ≡ true
+  pub locked : held-fits (current d) (d .state .locked) ≡ true
+  pub valid : held-fits (current d) (d .state .valid) ≡ true
+  pub rest : at-rest d ≡ true
+
+pub fits : (d : Desk) → desk-fits d ≡ true → Fits d
+unfolding desk-fits roll-fits
+fits d e =
+    let roll = d .state .roll in
+    let a = roll-fits roll in
+    let b = own-fits roll in
+    let c = eqb (length (d .table)) table-length in
+    let f = ltb (current d) (d .rounds) in
+    let g = ltb (settled-round (d .state .phase)) (d .rounds) in
+    let h = all-below (d .rounds) (λ r. round-fits d r) in
+    let i = held-fits (current d) (d .state .locked) in
+    let j = held-fits (current d) (d .state .valid) in
+    let e8 = and-left (a && b && c && f && g && h && i && j) (at-rest d) e in
+    let e7 = and-left (a && b && c && f && g && h && i) j e8 in
+    let e6 = and-left (a && b && c && f && g && h) i e7 in
+    let e5 = and-left (a && b && c && f && g) h e6 in
+    let e4 = and-left (a && b && c && f) g e5 in
+    let e3 = and-left (a && b && c) f e4 in
+    let e2 = and-left (a && b) c e3 in
+    let n1 = leb 1 (roll .kiosks) in
+    let n2 = leb (roll .kiosks) most-kiosks in
+    let r4 = and-left a b e2 in
+    let n3 = all-below (roll .kiosks) (λ x. leb (getD (roll .powers) x 0) 1000) in
+    let n4 = leb 1 (total-of roll) in
+    let r3 = and-left (n1 && n2 && n3 && n4) (leb (total-of roll) 32000) r4 in
+    let r2 = and-left (n1 && n2 && n3) n4 r3 in
+    let r1 = and-left (n1 && n2) n3 r2 in
+    record {
+      some-kiosks = leb-true 1 (roll .kiosks) (and-left n1 n2 r1);
+      few-kiosks = leb-true (roll .kiosks) most-kiosks (and-right n1 n2 r1);
+      own-on-roll = ltb-true (own d) (roll .kiosks) (and-right a b e2);
+      places = eqb-true (length (d .table)) table-length (and-right (a && b) c e3);
+      round = ltb-true (current d) (d .rounds) (and-right (a && b && c) f e4);
+      settled = ltb-true (settled-round (d .state .phase)) (d .rounds) (and-right (a && b && c && f) g e5);
+      rounds-fit = and-right (a && b && c && f && g) h e6;
+      locked = and-right (a && b && c && f && g && h) i e7;
+      valid = and-right (a && b && c && f && g && h && i) j e8;
+      rest = and-right (a && b && c && f && g && h && i && j) (at-rest d) e;
+    }
+
+-- ## What an accepted input has passed
+
+pub record Passes (d : Desk) (i : Input) : Type 0 where
+  pub unsettled : is-settled (d .state .phase) ≡ false
+  pub in-order : (if is-fresh (d .state .phase) then not (is-start i) else is-start i) ≡ false
+  pub height : eqb (i .height .0) (d .state .roll .height .0) ≡ true
+  pub fields : fields-fit (d .state .roll .kiosks) (d .rounds) i ≡ true
+  pub not-own : ((is-proposal i || is-vote i) && eqb (i .sender) (own d)) ≡ false
+  pub unheard : place-heard d i ≡ false
+  pub due : (is-timer i && not (timer-due d i)) ≡ false
+  pub next-round : (eqb (i .kind) 7 && eqb (suc (i .round .0)) (d .rounds)) ≡ false
+
+pub passes : (d : Desk) (i : Input) → is-accepted (refused-input d i) ≡ true → Passes d i
+unfolding refused-input refused-message
+passes d i e =
+    let a = past (is-settled (d .state .phase)) _ _ refl e in
+    let b = past (if is-fresh (d .state .phase) then not (is-start i) else is-start i) _ _ refl (a .1) in
+    let c = past (not (eqb (i .height .0) (d .state .roll .height .0))) _ _ refl (b .1) in
+    let f = past (not (fields-fit (d .state .roll .kiosks) (d .rounds) i)) _ _ refl (c .1) in
+    let g = past ((is-proposal i || is-vote i) && eqb (i .sender) (own d)) _ _ refl (f .1) in
+    let h = past (is-proposal i && not (eqb (i .sender) (proposer (d .state .roll) (i .round .0)))) _ _ refl (g .1) in
+    let j = past (place-heard d i && same-heard d i) _ _ refl (h .1) in
+    let k = past (place-heard d i) _ _ refl (j .1) in
+    let l = past (is-timer i && not (timer-due d i)) _ _ refl (k .1) in
+    let m = past (eqb (i .kind) 7 && eqb (suc (i .round .0)) (d .rounds)) _ _ refl (l .1) in
+    record {
+      unsettled = a .0;
+      in-order = b .0;
+      height = not-false (eqb (i .height .0) (d .state .roll .height .0)) (c .0);
+      fields = not-false (fields-fit (d .state .roll .kiosks) (d .rounds) i) (f .0);
+      not-own = g .0;
+      unheard = k .0;
+      due = l .0;
+      next-round = m .0;
+    }
+
+pub record Fields (n rounds : ℕ) (i : Input) : Type 0 where
+  pub kind-low : 1 ≤ i .kind
+  pub kind-high : i .kind ≤ 7
+  pub sender : i .sender < n
+  pub round : i .round .0 < rounds
+  pub of-kind : kind-fits i ≡ true
+
+pub fields-of : (n rounds : ℕ) (i : Input) → fields-fit n rounds i ≡ true → Fields n rounds i
+unfolding fields-fit
+fields-of n rounds i e =
+    let a = leb 1 (i .kind) in
+    let b = leb (i .kind) 7 in
+    let c = ltb (i .sender) n in
+    let d = ltb (i .round .0) rounds in
+    let e4 = and-left (a && b && c && d) (kind-fits i) e in
+    let e3 = and-left (a && b && c) d e4 in
+    let e2 = and-left (a && b) c e3 in
+    record {
+      kind-low = leb-true 1 (i .kind) (and-left a b e2);
+      kind-high = leb-true (i .kind) 7 (and-right a b e2);
+      sender = ltb-true (i .sender) n (and-right (a && b) c e3);
+      round = ltb-true (i .round .0) rounds (and-right (a && b && c) d e4);
+      of-kind = and-right (a && b && c && d) (kind-fits i) e;
+    }
+
+-- ## What the rules rely on
+
+module _ (area : ℕ) (k : Kiosk) (t : List ℕ) (i : Input) (e : is-accepted (judged area k (desk (k .state) t) i) ≡ true) where
+  let-in : (not (desk-fits (desk (k .state) t) && used-fits area k) ≡ false) × (is-accepted (refused-input (desk (k .state) t) i) ≡ true)
+  unfolding judged
+  let-in = past (not (desk-fits (desk (k .state) t) && used-fits area k)) _ _ refl e
+
+  both : (desk-fits (desk (k .state) t) && used-fits area k) ≡ true
+  both = not-false (desk-fits (desk (k .state) t) && used-fits area k) (let-in .0)
+
+  pub accepted-fits : Fits (desk (k .state) t)
+  accepted-fits = fits (desk (k .state) t) (and-left (desk-fits (desk (k .state) t)) (used-fits area k) both)
+
+  pub accepted-passes : Passes (desk (k .state) t) i
+  accepted-passes = passes (desk (k .state) t) i (let-in .1)
+
+  pub accepted-fields : Fields (k .state .roll .kiosks) most-rounds i
+  accepted-fields = fields-of (k .state .roll .kiosks) most-rounds i (accepted-passes .fields)
+
+  pub accepted-ready : Ready (k .state) t
+  accepted-ready = record {
+    some-kiosks = accepted-fits .some-kiosks;
+    few-kiosks = accepted-fits .few-kiosks;
+    own = accepted-fits .own-on-roll;
+    round = accepted-fits .round;
+    places = accepted-fits .places;
+  }
+
+  pub accepted-used : (k .used ≤ area) × (header-length (k .state .roll .kiosks) ≤ k .used) × (k .last ≤ k .used)
+  unfolding used-fits
+  accepted-used =
+      let a = leb (header-length (k .state .roll .kiosks)) (k .used) in
+      let b = leb (k .used) area in
+      let c = leb (k .last) (k .used) in
+      let u = and-right (desk-fits (desk (k .state) t)) (a && b && c) both in
+      let ab = and-left (a && b) c u in
+      (leb-true (k .used) area (and-right a b ab), leb-true (header-length (k .state .roll .kiosks)) (k .used) (and-left a b ab), leb-true (k .last) (k .used) (and-right (a && b) c u))
+
+  next-there : (n : ℕ) → i .kind ≤ 7 → i .round .0 < n → (eqb (i .kind) 7 && eqb (suc (i .round .0)) n) ≡ false → 7 ≤ i .kind → suc (i .round .0) < n
+  next-there n high less off late =
+      let seven : eqb (i .kind) 7 ≡ true = eq-eqb (i .kind) 7 (omega arith) in
+      let last : eqb (suc (i .round .0)) n ≡ false = rw seven at off in
+      omega (arith, eqb-false (suc (i .round .0)) n last)
+
+  pub accepted-readable : Readable i
+  accepted-readable = record {
+    kind = accepted-fields .kind-low;
+    sender = omega (arith, accepted-fields .sender, accepted-fits .few-kiosks);
+    round = accepted-fields .round;
+    next = next-there most-rounds (accepted-fields .kind-high) (accepted-fields .round) (accepted-passes .next-round);
+  }

@@ -1,0 +1,3 @@
+-- Laws and examples of weighing.
+pub mod Weighing
+pub mod Examples

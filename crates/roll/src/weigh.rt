@@ -1,0 +1,157 @@
+// Weighing: what sets of seats weigh, when that is "large" and "some", whose turn a round is, and what a roll may be.
+use crate::Height;
+use crate::Power;
+use crate::Roll;
+use crate::Round;
+use words::marks::is_marked;
+ghost use Prim.Native.Nat.{_+_, _<_, _≤_};
+ghost use mathlib.Core.Path.{_≡_};
+ghost use mathlib.Core.Bool.{_&&_};
+ghost use lib.Dec.{eqb, leb};
+ghost use lib.ListN.{length, getD};
+ghost use Rattle.words.specs.Choice.{if_then_else_, all-below};
+ghost use Rattle.words.specs.Marks.{marked};
+ghost use Rattle.roll.specs.Weighing.{large, some, power-of, total-of, proposer, roll-fits, own-fits, roll-with};
+
+impl Power {
+    // More than two thirds of the total.
+    pub fn is_large(self, total: Power) -> bool
+        ensures { λ r. ⌜ r ≡ large (total .0) (self .0) ⌝ }
+    {
+        2 * (total.0 as u64) < 3 * (self.0 as u64)
+    }
+
+    // More than one third of the total.
+    pub fn is_some(self, total: Power) -> bool
+        ensures { λ r. ⌜ r ≡ some (total .0) (self .0) ⌝ }
+    {
+        (total.0 as u64) < 3 * (self.0 as u64)
+    }
+}
+
+// What one seat adds.
+fn counted(power: u16, counts: bool) -> u32
+    ensures { λ r. ⌜ r ≡ (if counts then power else 0) ⌝ }
+    ensures { λ r. ⌜ r < 65536 ⌝ }
+{
+    if counts { power as u32 } else { 0 }
+}
+
+// Whether the seat is marked and its cell of the table holds the name. A seat that is not marked costs no look at the table.
+fn is_named(marks: u32, seat: usize, table: &[u64], cell: usize, name: u64) -> bool
+    requires { ⌜ (seat < 32) × (cell < length (now table)) ⌝ }
+    ensures { λ r. ⌜ r ≡ (marked marks seat && eqb (getD (now (table .entry)) cell 0) name) ⌝ }
+{
+    if !is_marked(marks, seat) {
+        return false;
+    }
+    table[cell] == name
+}
+
+impl Roll {
+    // 01: at most 32 kiosks.
+    pub const MOST: usize = 32;
+
+    // The power of all the kiosks.
+    pub fn total(self) -> Power
+        requires { ⌜ self .kiosks ≤ 32 ⌝ }
+        ensures { λ r. ⌜ r .0 ≡ total-of self ⌝ }
+    {
+        let mut sum: u32 = 0;
+        let mut i: usize = 0;
+        while i < self.kiosks {
+            sum += counted(self.powers[i], true);
+            i += 1;
+        }
+        Power(sum)
+    }
+
+    // The power of the seats marked.
+    pub fn weigh(self, marks: u32) -> Power
+        requires { ⌜ self .kiosks ≤ 32 ⌝ }
+        ensures { λ r. ⌜ r .0 ≡ power-of self (λ i. marked marks i) ⌝ }
+    {
+        let mut sum: u32 = 0;
+        let mut i: usize = 0;
+        while i < self.kiosks {
+            sum += counted(self.powers[i], is_marked(marks, i));
+            i += 1;
+        }
+        Power(sum)
+    }
+
+    // The power of the seats marked whose cell, from `base` on, holds the name.
+    pub fn weigh_named(self, marks: u32, table: &[u64], base: usize, name: u64) -> Power
+        requires { ⌜ (self .kiosks ≤ 32) × (base + 32 ≤ length (now table)) ⌝ }
+        ensures { λ r. ⌜ r .0 ≡ power-of self (λ i. marked marks i && eqb (getD (now (table .entry)) (base + i) 0) name) ⌝ }
+    {
+        let mut sum: u32 = 0;
+        let mut i: usize = 0;
+        while i < self.kiosks {
+            sum += counted(self.powers[i], is_named(marks, i, table, base + i, name));
+            i += 1;
+        }
+        Power(sum)
+    }
+
+    // Whose turn a round is.
+    pub fn proposer(self, r: Round) -> usize
+        requires { ⌜ 0 < self .kiosks ⌝ }
+        ensures { λ p. ⌜ p ≡ proposer self (r .0) ⌝ }
+    {
+        (self.height.0 as usize + r.0 as usize) % self.kiosks
+    }
+
+    fn powers_fit(self) -> bool
+        requires { ⌜ self .kiosks ≤ 32 ⌝ }
+        ensures { λ r. ⌜ r ≡ all-below (self .kiosks) (λ i. leb (getD (self .powers) i 0) 1000) ⌝ }
+    {
+        let mut fit = true;
+        let mut i: usize = 0;
+        while i < self.kiosks {
+            fit = fit & (self.powers[i] <= 1000);
+            i += 1;
+        }
+        fit
+    }
+
+    // Whether this is a roll within 01's numbers.
+    pub fn fits(self) -> bool
+        ensures { λ r. ⌜ r ≡ roll-fits self ⌝ }
+    {
+        if self.kiosks < 1 {
+            return false;
+        }
+        if Roll::MOST < self.kiosks {
+            return false;
+        }
+        let total = self.total();
+        self.powers_fit() & (1 <= total.0) & (total.0 <= 32000)
+    }
+
+    // Whether the own number is on the roll.
+    pub fn own_fits(self) -> bool
+        ensures { λ r. ⌜ r ≡ own-fits self ⌝ }
+    {
+        self.own < self.kiosks
+    }
+
+    // The roll of some powers, one kiosk each.
+    pub fn with_powers(powers: &[u16], own: usize, height: Height) -> Roll
+        requires { ⌜ length (now powers) ≤ 32 ⌝ }
+        ensures { λ r. ⌜ r ≡ roll-with (now (powers .entry)) own (height .0) ⌝ }
+    {
+        let mut list = [0u16; 32];
+        let mut i: usize = 0;
+        while i < powers.len() {
+            list[i] = powers[i];
+            i += 1;
+        }
+        Roll {
+            kiosks: powers.len(),
+            powers: list,
+            own,
+            height,
+        }
+    }
+}

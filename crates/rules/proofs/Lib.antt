@@ -1,0 +1,21 @@
+-- Laws and examples of the rules.
+pub mod ByRule
+pub mod ByInput
+pub mod Room
+pub mod Sends
+pub mod Ahead
+pub mod Firing
+pub mod Ends
+pub mod Behind
+pub mod Reach
+pub mod Six
+pub mod Weighs
+pub mod Applies
+pub mod Chooses
+pub mod Keeping
+pub mod Handover
+pub mod Turns
+pub mod Begins
+pub mod Fires
+pub mod Stories
+pub mod Examples

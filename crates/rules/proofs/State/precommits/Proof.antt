@@ -1,0 +1,17 @@
+-- `rules::State::precommits` meets its contract, with any table. Assumes nothing.
+use borrow.Author.Needs.{needs}
+use Rattle.rules.proofs.Weighs.{precommits-weigh}
+use Rattle.rules.proofs.State.precommits.Statement.{statement}
+use Rattle.rules.proofs.State.precommits.Tie as tie
+
+heard-requires : tie.Need-heard-requires
+heard-requires c κs = search needs
+
+weigh-requires : tie.Need-weigh-requires
+weigh-requires c κs = search needs
+
+returns : tie.Need-returns
+returns c = λ t. precommits-weigh _ t _ (c .before .before .heard .ensures) (c .weigh .ensures)
+
+pub precommits-spec : {M : Type 1} → statement M
+precommits-spec = tie.close (tie.spec heard-requires weigh-requires returns)

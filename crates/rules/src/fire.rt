@@ -1,0 +1,202 @@
+// The work of a call: the input, and then the rules until none applies. The outputs are kept in order, and the table's places that
+// are written are kept with the names that they held, so that a call refused for room leaves no trace.
+use crate::Input;
+use crate::Output;
+use crate::Sent;
+use crate::State;
+use crate::Trail;
+use crate::Worked;
+use crate::tests::is_rule;
+use roll::Power;
+use roll::Round;
+ghost use Prim.Native.Nat.{ℕ, _+_, _<_, _≤_};
+ghost use mathlib.Core.Path.{_≡_};
+ghost use mathlib.Core.List.{List, [], _∷_};
+ghost use mathlib.Core.Bool.{true, not};
+ghost use lib.ListN.{length, getD, set, replicate};
+ghost use Rattle.words.specs.Choice.{if_then_else_};
+ghost use Rattle.roll.specs.Weighing.{total-of};
+ghost use Rattle.rules.specs.Log.{desk};
+ghost use Rattle.rules.specs.Rules.{first-rule, is-rule};
+ghost use Rattle.rules.specs.Work.{fire-all, work};
+ghost use Rattle.rules.specs.Acts.{Ready, Readable, midway, packed, so-far, no-trail, undone, Firing, Leaves};
+
+impl Sent {
+    pub fn none() -> Sent
+        ensures { λ s. ⌜ s ≡ packed [] ⌝ }
+    {
+        Sent {
+            count: 0,
+            list: [Output {
+                kind: 0,
+                round: Round(0),
+                valid: 0,
+                name: 0,
+            }; 6],
+        }
+    }
+
+    fn with(mut self, o: Output) -> Sent
+        requires { ⌜ self .count < 6 ⌝ }
+        ensures { λ s. ⌜ s ≡ record { count = self .count + 1; list = set (self .list) (self .count) o } ⌝ }
+    {
+        let at = self.count;
+        self.list[at] = o;
+        self.count = at + 1;
+        self
+    }
+
+    // With one output more, where an act sends one.
+    fn send(self, sends: bool, o: Output) -> Sent
+        requires { ⌜ (sends ≡ true → self .count < 6) ⌝ }
+        ensures { λ s. ⌜ s ≡ (if sends then record { count = self .count + 1; list = set (self .list) (self .count) o } else self) ⌝ }
+    {
+        if sends {
+            return self.with(o);
+        }
+        self
+    }
+}
+
+impl Trail {
+    pub fn none() -> Trail
+        ensures { λ t. ⌜ t ≡ no-trail ⌝ }
+    {
+        Trail {
+            count: 0,
+            places: [0usize; 7],
+            names: [0u64; 7],
+        }
+    }
+
+    fn with(mut self, place: usize, name: u64) -> Trail
+        requires { ⌜ self .count < 7 ⌝ }
+        ensures { λ t. ⌜ t ≡ record { count = self .count + 1; places = set (self .places) (self .count) place; names = set (self .names) (self .count) name } ⌝ }
+    {
+        let at = self.count;
+        self.places[at] = place;
+        self.names[at] = name;
+        self.count = at + 1;
+        self
+    }
+
+    // With one place more, where an act writes one, and the name that it holds now.
+    fn keep(self, table: &[u64], writes: bool, place: usize) -> Trail
+        requires { ⌜ (writes ≡ true → self .count < 7) ⌝ }
+        ensures { λ t. ⌜ t ≡ (if writes then record { count = self .count + 1; places = set (self .places) (self .count) place; names = set (self .names) (self .count) (getD (now (table .entry)) place 0) } else self) ⌝ }
+    {
+        if writes {
+            return self.with(place, read(table, place));
+        }
+        self
+    }
+
+    // The table as it was before the writes of the trail, the last taken back first.
+    pub fn take_back(self, table: &mut [u64])
+        requires { ⌜ self .count ≤ 7 ⌝ }
+        ensures { λ _. ⌜ now (table .exit) ≡ undone self (now (table .entry)) ⌝ }
+    {
+        let mut left = self.count;
+        while 0 < left {
+            left -= 1;
+            write(table, self.places[left], self.names[left]);
+        }
+    }
+}
+
+// A name in a place of the table; a place past its end is none.
+fn write(table: &mut [u64], place: usize, name: u64)
+    ensures { λ _. ⌜ now (table .exit) ≡ set (now (table .entry)) place name ⌝ }
+{
+    if place < table.len() {
+        table[place] = name;
+    }
+}
+
+// The same, where an act writes one.
+fn write_if(table: &mut [u64], writes: bool, place: usize, name: u64)
+    ensures { λ _. ⌜ now (table .exit) ≡ (if writes then set (now (table .entry)) place name else now (table .entry)) ⌝ }
+{
+    if writes {
+        write(table, place, name);
+    }
+}
+
+fn read(table: &[u64], place: usize) -> u64
+    ensures { λ name. ⌜ name ≡ getD (now (table .entry)) place 0 ⌝ }
+{
+    if place < table.len() { table[place] } else { 0 }
+}
+
+impl State {
+    // Whether no rule applies.
+    pub fn is_quiet(self, table: &[u64], total: Power) -> bool
+        requires { ⌜ Ready self (now table) × (total .0 ≡ total-of (self .roll)) ⌝ }
+        ensures { λ r. ⌜ r ≡ not (is-rule (first-rule (desk self (now (table .entry))))) ⌝ }
+    {
+        !is_rule(self.first_rule(table, total))
+    }
+
+    // The first rule that applies fires, and the list is begun again, with one firing less left.
+    pub fn fire(
+        self,
+        sent: Sent,
+        trail: Trail,
+        table: &mut [u64],
+        total: Power,
+        offer: u64,
+        left: usize,
+    ) -> Worked
+        requires { ⌜ Firing left offer self sent trail (now table) × (total .0 ≡ total-of (self .roll)) ⌝ }
+        ensures { λ w. ⌜ Leaves (fire-all left offer (midway self (now (table .entry)) (so-far sent))) (undone trail (now (table .entry))) w (now (table .exit)) ⌝ }
+    {
+        if left == 0 {
+            return Worked {
+                state: self,
+                sent,
+                trail,
+            };
+        }
+        let rule = self.first_rule(table, total);
+        if !is_rule(rule) {
+            return Worked {
+                state: self,
+                sent,
+                trail,
+            };
+        }
+        let a = self.act(rule, table, offer);
+        let s = a.state;
+        let kept = trail.keep(table, a.writes, a.place);
+        write_if(table, a.writes, a.place, a.name);
+        s.fire(
+            sent.send(a.sends, a.output),
+            kept,
+            table,
+            total,
+            offer,
+            left - 1,
+        )
+    }
+
+    // An accepted input's whole work.
+    pub fn work(self, i: Input, table: &mut [u64]) -> Worked
+        requires { ⌜ Ready self (now table) × Readable i × (length (work i self (now table) .sent) ≤ 6) ⌝ }
+        ensures { λ w. ⌜ Leaves (work i self (now (table .entry))) (now (table .entry)) w (now (table .exit)) ⌝ }
+    {
+        let roll = self.roll;
+        let total = roll.total();
+        let a = self.take_in(i);
+        let s = a.state;
+        let kept = Trail::none().keep(table, a.writes, a.place);
+        write_if(table, a.writes, a.place, a.name);
+        s.fire(
+            Sent::none().send(a.sends, a.output),
+            kept,
+            table,
+            total,
+            i.offer,
+            136,
+        )
+    }
+}

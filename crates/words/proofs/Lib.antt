@@ -1,0 +1,5 @@
+-- Laws of the words.
+pub mod Choice
+pub mod MarkLaws
+pub mod ByteLaws
+pub mod Compared

@@ -1,0 +1,4 @@
+-- The words that every other definition is written in.
+pub mod Choice
+pub mod Marks
+pub mod Bytes

@@ -1,0 +1,28 @@
+// Seat marks: up to 32 seats in one number, seat i's mark at binary digit i.
+ghost use Prim.Native.Nat.{_<_};
+ghost use mathlib.Core.Path.{_≡_};
+ghost use lib.Bits.{bitOr};
+ghost use Rattle.words.specs.Marks.{marked, mark};
+
+// Whether the seat has its mark.
+pub fn is_marked(marks: u32, seat: usize) -> bool
+    requires { ⌜ seat < 32 ⌝ }
+    ensures { λ r. ⌜ r ≡ marked marks seat ⌝ }
+{
+    (marks >> seat) % 2 == 1
+}
+
+// The marks with the seat's set.
+pub fn with_mark(marks: u32, seat: usize) -> u32
+    requires { ⌜ seat < 32 ⌝ }
+    ensures { λ r. ⌜ r ≡ mark marks seat ⌝ }
+{
+    marks | (1u32 << seat)
+}
+
+// The seats marked in one or the other: each once.
+pub fn either(a: u32, b: u32) -> u32
+    ensures { λ r. ⌜ r ≡ bitOr a b ⌝ }
+{
+    a | b
+}
