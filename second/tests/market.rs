@@ -3,6 +3,7 @@
 
 mod common;
 use common::*;
+use compare::Random;
 use second::*;
 
 /// A message as it goes from kiosk to kiosk.

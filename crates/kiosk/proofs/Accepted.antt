@@ -2,34 +2,28 @@
 -- outputs. Assumes nothing.
 use Prim.Native.Nat.{ℕ, suc, _≤_, _<_}
 use mathlib.Core.Path.{_≡_, refl, sym, _∙_}
-use mathlib.Core.List.{List, []}
+use mathlib.Core.List.{List}
 use mathlib.Core.Bool.{Bool, true, false, _&&_, _||_, not, true≢false, false≢true}
 use native.Mathlib.Omega.{arith}
 use lib.ListN.{length, getD}
 use lib.Dec.{eqb, ltb, leb}
-use borrow.Author.Tests.{not-true, not-false, ltb-true, leb-true, eqb-true, eqb-false, eq-eqb, le-leb}
-use Rattle.words.specs.Choice.{if_then_else_, all-below, all-zero}
+use borrow.Author.Tests.{not-false, ltb-true, leb-true, eqb-true, eqb-false, eq-eqb}
+use Rattle.words.specs.Choice.{if_then_else_, all-below}
 use Rattle.words.proofs.Choice.{and-left, and-right}
 use Rattle.roll.specs.Weighing.{roll-fits, own-fits, total-of, most-kiosks, proposer}
-use Rattle.rules.specs.declared.Phase.{Phase}
-use Rattle.rules.specs.declared.Phase.the-variants.{Fresh, Running, Settled}
 use Rattle.rules.specs.declared.Input.{Input}
-use Rattle.rules.specs.declared.Rule.the-variants.{Nothing}
-use Rattle.rules.specs.State.{is-fresh, is-running, is-settled, settled-round, is-propose, is-prevote, most-rounds}
-use Rattle.rules.specs.Log.{Desk, desk, heard, table-length}
-use Rattle.rules.specs.Doing.{current, step, own}
-use Rattle.rules.specs.Rules.{first-rule, is-rule}
-use Rattle.rules.specs.Work.{work, worked}
-use Rattle.rules.specs.Acts.{Ready, Readable}
-use Rattle.rules.proofs.ByRule.{not-a-rule}
-use Rattle.rules.proofs.Six.{Unheard, six-running, six-fresh}
+use Rattle.rules.specs.State.{is-fresh, is-settled, settled-round, most-rounds}
+use Rattle.rules.specs.Log.{Desk, desk, table-length}
+use Rattle.rules.specs.Doing.{current, own}
+use Rattle.rules.specs.Ready.{Ready, Readable}
 use Rattle.journal.specs.Layout.{header-length}
 use Rattle.kiosk.specs.declared.Kiosk.{Kiosk}
-use Rattle.kiosk.specs.declared.Answer.{Answer}
-use Rattle.kiosk.specs.declared.Answer.the-variants.{Accepted, Impossible, AlreadySettled, OutOfOrder, OtherHeight, BadField, OwnNumber, NotProposer, HeardSame, HeardOther, TimerNotDue, LastRound, NoRoom, HeaderShort, Damaged, BadRoll}
-use Rattle.kiosk.specs.Answers.{is-accepted}
-use Rattle.kiosk.specs.Possible.{held-fits, round-fits, silent, fresh-fits, at-rest, desk-fits, used-fits}
-use Rattle.kiosk.specs.Refusals.{is-start, is-proposal, is-vote, is-timer, kind-fits, fields-fit, place-heard, same-heard, timer-due, refused-message, refused-input, judged}
+use Rattle.answers.specs.declared.Answer.{Answer}
+use Rattle.answers.specs.declared.Answer.the-variants.{Accepted, Impossible, AlreadySettled, OutOfOrder, OtherHeight, BadField, OwnNumber, NotProposer, HeardSame, HeardOther, TimerNotDue, LastRound, NoRoom, HeaderShort, Damaged, BadRoll}
+use Rattle.answers.specs.Answers.{is-accepted}
+use Rattle.refusals.specs.Possible.{held-fits, round-fits, at-rest, desk-fits}
+use Rattle.refusals.specs.Refusals.{is-start, is-proposal, is-vote, is-timer, kind-fits, fields-fit, place-heard, same-heard, timer-due, refused-message, refused-input}
+use Rattle.kiosk.specs.Judged.{used-fits, judged}
 
 -- only Accepted is number 0
 pub accepted-is : (a : Answer) → is-accepted a ≡ true → a ≡ Accepted
@@ -50,8 +44,8 @@ accepted-is HeaderShort e = absurd (false≢true e)
 accepted-is (Damaged place) e = absurd (false≢true e)
 accepted-is BadRoll e = absurd (false≢true e)
 
--- past a refusal that is not given
-past : (b : Bool) (x y : Answer) → is-accepted x ≡ false → is-accepted (if b then x else y) ≡ true → (b ≡ false) × (is-accepted y ≡ true)
+-- past an answer that is not given
+pub past : (b : Bool) (x y : Answer) → is-accepted x ≡ false → is-accepted (if b then x else y) ≡ true → (b ≡ false) × (is-accepted y ≡ true)
 past true x y off e = absurd (true≢false (sym e ∙ off))
 past false x y off e = (refl, e)
 

@@ -1,34 +1,34 @@
 -- Made-up calls: each clause of refusal 1, each of the refusals 2 to 15, each boundary, and the stories that 01 does not tell. One list,
 -- one statement, which antt computes. Assumes nothing.
-use Prim.Native.Nat.{ℕ, _+_, _*_, _-_}
+use Prim.Native.Nat.{ℕ, _-_}
 use mathlib.Core.Path.{_≡_, refl}
 use mathlib.Core.List.{List, [], _∷_, _++_}
 use mathlib.Core.Bool.{Bool, true, false, _&&_}
 use lib.ListN.{length, take, set, getD, replicate}
 use lib.Dec.{eqb}
 use Rattle.words.specs.Choice.{the-choices}
-use Rattle.words.specs.Bytes.{compared, overwrite}
+use Rattle.words.specs.Bytes.{compared}
 use Rattle.roll.specs.declared.Roll.{Roll}
-use Rattle.roll.specs.Weighing.{roll-with, the-weighing}
-use Rattle.rules.specs.declared.Phase.the-variants.{Running, Settled}
+use Rattle.roll.specs.Weighing.{the-weighing}
+use Rattle.rules.specs.declared.Phase.the-variants.{Settled}
 use Rattle.rules.specs.declared.Step.the-variants.{Propose}
 use Rattle.rules.specs.declared.Held.{Held}
 use Rattle.rules.specs.declared.State.{State}
 use Rattle.rules.specs.declared.Input.{Input}
-use Rattle.rules.specs.declared.Output.{Output}
 use Rattle.rules.specs.State.{before-start, entered, held, with-phase, with-stand, with-locked, with-valid}
 use Rattle.rules.specs.Log.{empty-table, the-log}
 use Rattle.rules.specs.Doing.{output, the-doing}
 use Rattle.rules.specs.Rules.{the-rules}
 use Rattle.rules.specs.Work.{the-work}
-use Rattle.journal.specs.Layout.{header-length, roomy, group-bytes, the-layout}
+use Rattle.journal.specs.Layout.{roomy, group-bytes, the-layout}
 use Rattle.journal.specs.Readback.{the-readback}
 use Rattle.rules.proofs.Stories.{Story, four, given, given-with, locks, hears, hearing, other-stories}
 use Rattle.rules.proofs.Examples.{same-outputs}
 use Rattle.kiosk.specs.declared.Kiosk.{Kiosk}
-use Rattle.kiosk.specs.Answers.{number-of, place-of}
-use Rattle.kiosk.specs.Possible.{the-possible}
-use Rattle.kiosk.specs.Refusals.{the-refusals}
+use Rattle.answers.specs.Answers.{number-of, place-of}
+use Rattle.refusals.specs.Possible.{the-possible}
+use Rattle.refusals.specs.Refusals.{the-refusals}
+use Rattle.kiosk.specs.Judged.{the-judged}
 use Rattle.kiosk.specs.Calls.{Called, create, put, the-calls}
 use Rattle.kiosk.specs.Opening.{open-journal, the-opening}
 use Rattle.kiosk.proofs.Told.{told, made-up, created-and-opened, replies-so, the-telling}
@@ -286,5 +286,5 @@ all-right [] = true
 all-right (c ∷ cs) = right c && all-right cs
 
 made-up-calls-right : all-right (cases ++ stories other-stories) ≡ true
-unfolding the-choices the-weighing the-log the-doing the-rules the-work the-layout the-readback the-possible the-refusals the-calls the-opening the-telling same-outputs compared base k t with-state with-lengths with-roll roll ones vote state-gives lengths-give gives no-round fresh fresh-gives late header start alone changed cases stories right all-right
+unfolding the-choices the-weighing the-log the-doing the-rules the-work the-layout the-readback the-possible the-refusals the-judged the-calls the-opening the-telling same-outputs compared base k t with-state with-lengths with-roll roll ones vote state-gives lengths-give gives no-round fresh fresh-gives late header start alone changed cases stories right all-right
 made-up-calls-right = refl

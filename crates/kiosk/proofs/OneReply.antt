@@ -4,7 +4,7 @@ use mathlib.Core.Path.{_≡_, sym, _∙_}
 use mathlib.Core.List.{List}
 use Rattle.rules.specs.declared.Sent.{Sent}
 use Rattle.kiosk.specs.declared.Kiosk.{Kiosk}
-use Rattle.kiosk.specs.declared.Answer.{Answer}
+use Rattle.answers.specs.declared.Answer.{Answer}
 use Rattle.kiosk.specs.declared.Reply.{Reply}
 use Rattle.kiosk.specs.declared.Made.{Made}
 use Rattle.kiosk.specs.Calls.{Called, Created, last-group}

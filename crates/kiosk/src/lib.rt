@@ -1,9 +1,9 @@
 // A kiosk: one height, one journal.
 pub mod calls;
-pub mod open;
-pub mod possible;
-pub mod refuse;
+pub mod fresh;
+pub mod judge;
 
+use answers::Answer;
 use rules::Sent;
 use rules::State;
 
@@ -14,24 +14,13 @@ pub struct Kiosk {
     pub last: usize,
 }
 
-// What a call answers: accepted, or why not. 01's table of refusals gives each its number; `Damaged` has its place.
-pub enum Answer {
-    Accepted,
-    Impossible,
-    AlreadySettled,
-    OutOfOrder,
-    OtherHeight,
-    BadField,
-    OwnNumber,
-    NotProposer,
-    HeardSame,
-    HeardOther,
-    TimerNotDue,
-    LastRound,
-    NoRoom,
-    HeaderShort,
-    Damaged(usize),
-    BadRoll,
+impl Kiosk {
+    // The places of the table, the rounds, and the bytes of a journal of 32 kiosks in which no call is refused for room.
+    pub const TABLE: usize = 1040;
+
+    pub const ROUNDS: u8 = 16;
+
+    pub const ROOMY: usize = 28499;
 }
 
 // A reply: the answer, the outputs to send, and the next state.
@@ -45,18 +34,4 @@ pub struct Reply {
 pub struct Made {
     pub answer: Answer,
     pub used: usize,
-}
-
-// What stands where a group may start.
-pub enum Place {
-    Ended,
-    Unfinished,
-    Damaged,
-    Whole,
-}
-
-// A group read: what stands there, and the kiosk after it where it is whole.
-pub struct GroupRead {
-    pub place: Place,
-    pub kiosk: Kiosk,
 }

@@ -9,13 +9,5 @@ pub mod Ends
 pub mod Behind
 pub mod Reach
 pub mod Six
-pub mod Weighs
-pub mod Applies
-pub mod Chooses
-pub mod Keeping
-pub mod Handover
-pub mod Turns
-pub mod Begins
-pub mod Fires
 pub mod Stories
 pub mod Examples

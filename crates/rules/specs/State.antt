@@ -2,7 +2,8 @@
 -- Assumes nothing.
 use Prim.Native.Nat.{ℕ, suc}
 use mathlib.Core.List.{List}
-use mathlib.Core.Bool.{Bool, true, false}
+use mathlib.Core.Bool.{Bool, true, false, _&&_, not}
+use lib.Dec.{eqb}
 use lib.ListN.{replicate}
 use Rattle.roll.specs.declared.Roll.{Roll}
 use Rattle.rules.specs.declared.Phase.{Phase}
@@ -57,6 +58,9 @@ is-prevote Precommit = false
 -- nothing is heard of a round
 abbrev pub silence : Heard
 silence = record { proposal = false; good = false; valid = 0; prevotes = 0; precommits = 0 }
+
+abbrev pub silent : Heard → Bool
+silent h = not (h .proposal) && eqb (h .prevotes) 0 && eqb (h .precommits) 0
 
 -- no sheet is held: 003's nil and -1
 abbrev pub nothing : Held

@@ -1,10 +1,7 @@
 // Algorithm 1 of 003: the voting state, and what goes in and out of it.
-pub mod acts;
-pub mod fire;
 pub mod log;
+pub mod outputs;
 pub mod tests;
-pub mod weigh;
-pub mod when;
 
 use roll::Height;
 use roll::Roll;
@@ -100,33 +97,8 @@ pub struct Output {
     pub name: u64,
 }
 
-// What a rule or an input does: the next state; an output, if it sends one; a place of the table with the name that goes there, if
-// it writes one.
-pub struct Act {
-    pub state: State,
-    pub sends: bool,
-    pub output: Output,
-    pub writes: bool,
-    pub place: usize,
-    pub name: u64,
-}
-
 // The outputs of a call, in order: the first `count` of `list`.
 pub struct Sent {
     pub count: usize,
     pub list: [Output; 6],
-}
-
-// The places of the table that a call wrote, in order, with the names that they held before.
-pub struct Trail {
-    pub count: usize,
-    pub places: [usize; 7],
-    pub names: [u64; 7],
-}
-
-// The work of a call: the next state, the outputs, and the way back.
-pub struct Worked {
-    pub state: State,
-    pub sent: Sent,
-    pub trail: Trail,
 }

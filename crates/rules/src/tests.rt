@@ -1,11 +1,12 @@
 // Tests on the enums, and choice.
+use crate::Heard;
 use crate::Phase;
 use crate::Rule;
 use crate::State;
 use crate::Step;
 ghost use mathlib.Core.Path.{_≡_};
 ghost use Rattle.words.specs.Choice.{if_then_else_};
-ghost use Rattle.rules.specs.State.{is-fresh, is-running, is-settled, is-propose, is-prevote};
+ghost use Rattle.rules.specs.State.{is-fresh, is-running, is-settled, is-propose, is-prevote, silent};
 ghost use Rattle.rules.specs.Rules.{is-rule};
 
 pub fn is_fresh(p: Phase) -> bool
@@ -104,4 +105,11 @@ pub fn pick(first: bool, a: u64, b: u64) -> u64
     ensures { λ r. ⌜ r ≡ (if first then a else b) ⌝ }
 {
     if first { a } else { b }
+}
+
+// Whether nothing is heard of a round.
+pub fn is_silent(h: Heard) -> bool
+    ensures { λ b. ⌜ b ≡ silent h ⌝ }
+{
+    !h.proposal & (h.prevotes == 0) & (h.precommits == 0)
 }

@@ -3,6 +3,7 @@
 use io::print_decimal;
 use kiosk::Kiosk;
 use kiosk::calls::create;
+use opening::open;
 use roll::Height;
 use roll::Round;
 use rules::Input;
@@ -62,7 +63,7 @@ fn four(journal: &mut [u8], table: &mut [u64]) -> Kiosk {
     let powers = [1u16; 4];
     let made = create(&powers, 0, Height(1), journal);
     let used = made.used;
-    let r = Kiosk::open(journal, used, table);
+    let r = open(journal, used, table);
     r.kiosk
 }
 

@@ -1,64 +1,14 @@
-//! What the tests share: inputs and outputs in few words, a small random
-//! generator, and a bench that checks 01's promises at every call.
+//! What the tests share: inputs and outputs in few words, and a bench that checks
+//! 01's promises at every call.
 
 // Each test program uses its own part of this.
 #![allow(dead_code)]
 
+pub use compare::calls::JUNK;
+pub use compare::inputs::*;
 use second::*;
 
 pub const NIL: u64 = 0;
-
-pub fn start(height: u32, offer: u64) -> Input {
-    Input {
-        kind: 1,
-        height,
-        sender: 0,
-        round: 0,
-        valid: 0,
-        verdict: 0,
-        name: 0,
-        offer,
-    }
-}
-
-/// `vr` is the valid round, -1 for none.
-pub fn proposal(height: u32, sender: u8, round: u8, name: u64, vr: i8, verdict: u8) -> Input {
-    Input {
-        kind: 2,
-        sender,
-        round,
-        valid: (vr + 1) as u8,
-        verdict,
-        name,
-        ..start(height, 0)
-    }
-}
-
-pub fn prevote(height: u32, sender: u8, round: u8, name: u64) -> Input {
-    Input {
-        kind: 3,
-        sender,
-        round,
-        name,
-        ..start(height, 0)
-    }
-}
-
-pub fn precommit(height: u32, sender: u8, round: u8, name: u64) -> Input {
-    Input {
-        kind: 4,
-        ..prevote(height, sender, round, name)
-    }
-}
-
-/// The timer of propose, prevote or precommit: kind 5, 6 or 7.
-pub fn timer(height: u32, kind: u8, round: u8) -> Input {
-    Input {
-        kind,
-        round,
-        ..start(height, 0)
-    }
-}
 
 pub fn out(kind: u8, round: u8, name: u64) -> Output {
     Output {
@@ -76,36 +26,6 @@ pub const ASK_PROPOSE: u8 = 4;
 pub const ASK_PREVOTE: u8 = 5;
 pub const ASK_PRECOMMIT: u8 = 6;
 pub const SETTLED: u8 = 7;
-
-/// Splitmix64: small, and the same numbers at every run.
-pub struct Random(pub u64);
-
-impl Random {
-    pub fn number(&mut self) -> u64 {
-        self.0 = self.0.wrapping_add(0x9e37_79b9_7f4a_7c15);
-        let mut z = self.0;
-        z = (z ^ (z >> 30)).wrapping_mul(0xbf58_476d_1ce4_e5b9);
-        z = (z ^ (z >> 27)).wrapping_mul(0x94d0_49bb_1331_11eb);
-        z ^ (z >> 31)
-    }
-
-    /// 0 to `bound` - 1.
-    pub fn below(&mut self, bound: usize) -> usize {
-        (self.number() % bound as u64) as usize
-    }
-
-    /// True once in `times`.
-    pub fn once_in(&mut self, times: usize) -> bool {
-        self.below(times) == 0
-    }
-
-    pub fn pick<T: Copy>(&mut self, from: &[T]) -> T {
-        from[self.below(from.len())]
-    }
-}
-
-/// What stands in an area before anything is written there.
-pub const JUNK: u8 = 0xa5;
 
 /// A kiosk's lent things, with the state of the last call.
 #[derive(Clone)]

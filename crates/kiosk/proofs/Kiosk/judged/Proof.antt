@@ -1,8 +1,8 @@
 -- `kiosk::Kiosk::judged` meets its contract. Assumes nothing.
 use mathlib.Core.Path.{sym, _∙_}
 use borrow.Author.Tests.{not-true, not-false}
-use Rattle.kiosk.specs.Refusals.{judged}
-use Rattle.kiosk.proofs.Judging.{desk-ready}
+use Rattle.kiosk.specs.Judged.{judged}
+use Rattle.refusals.proofs.Judging.{desk-ready}
 use borrow.Author.Needs.{needs}
 use Rattle.kiosk.proofs.Kiosk.judged.Statement.{statement}
 use Rattle.kiosk.proofs.Kiosk.judged.Tie as tie

@@ -2,7 +2,7 @@
 use native.Mathlib.Omega.{arith}
 use borrow.Author.Tests.{lt-leb, le-leb}
 use Rattle.journal.specs.Layout.{header-length}
-use Rattle.kiosk.specs.Possible.{used-fits}
+use Rattle.kiosk.specs.Judged.{used-fits}
 use Rattle.kiosk.proofs.Kiosk.used_fits.Statement.{statement}
 use Rattle.kiosk.proofs.Kiosk.used_fits.Tie as tie
 

@@ -1,0 +1,2 @@
+-- 01's number and place of each answer.
+pub mod Answers

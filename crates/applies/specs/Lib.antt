@@ -1,0 +1,2 @@
+-- What this crate's contracts are written in, beside the rules' definitions.
+pub mod Later

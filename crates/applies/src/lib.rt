@@ -1,0 +1,3 @@
+// When each rule applies, and which is the first.
+pub mod weigh;
+pub mod when;

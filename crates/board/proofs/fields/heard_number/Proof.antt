@@ -1,0 +1,61 @@
+-- `board::fields::heard_number` meets its contract, field by field. Assumes nothing.
+use borrow.Author.Tests.{ne-eqb}
+use Rattle.board.specs.Fields.{heard-number}
+use borrow.Author.Needs.{needs}
+use Rattle.board.proofs.fields.heard_number.Statement.{statement}
+use Rattle.board.proofs.fields.heard_number.Tie as tie
+
+cast-result : tie.Need-cast-result
+cast-result c = search needs
+
+cast-result-2 : tie.Need-cast-result-2
+cast-result-2 c = search needs
+
+cast-result-3 : tie.Need-cast-result-3
+cast-result-3 c = search needs
+
+cast-result-4 : tie.Need-cast-result-4
+cast-result-4 c = search needs
+
+cast-result-5 : tie.Need-cast-result-5
+cast-result-5 c = search needs
+
+returns : tie.Need-returns
+unfolding heard-number
+returns c = rw (c .before .match .keys1)
+
+returns-2 : tie.Need-returns-2
+unfolding heard-number
+returns-2 c = rw (c .before .match .keys2)
+
+returns-3 : tie.Need-returns-3
+unfolding heard-number
+returns-3 c = rw (c .before .match .keys3)
+
+returns-4 : tie.Need-returns-4
+unfolding heard-number
+returns-4 c = rw (c .before .match .keys4)
+
+returns-5 : tie.Need-returns-5
+unfolding heard-number
+returns-5 c = rw (c .before .match .keys5)
+
+returns-6 : tie.Need-returns-6
+unfolding heard-number
+returns-6 c = rw (ne-eqb _ 18 (c .match .rest .0 .0 .0 .0 .1), ne-eqb _ 19 (c .match .rest .0 .0 .0 .1), ne-eqb _ 20 (c .match .rest .0 .0 .1), ne-eqb _ 21 (c .match .rest .0 .1), ne-eqb _ 22 (c .match .rest .1))
+
+pub heard-number-spec : {M : Type 1} → statement M
+heard-number-spec =
+    tie.close
+    (tie.spec
+    cast-result
+    cast-result-2
+    cast-result-3
+    cast-result-4
+    cast-result-5
+    returns
+    returns-2
+    returns-3
+    returns-4
+    returns-5
+    returns-6)

@@ -1,0 +1,6 @@
+-- Laws of a call's work.
+pub mod Keeping
+pub mod Handover
+pub mod Turns
+pub mod Begins
+pub mod Fires

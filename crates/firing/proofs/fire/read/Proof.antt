@@ -1,0 +1,21 @@
+-- `firing::fire::read` meets its contract: a place past the table's end reads as 0. Assumes nothing.
+use mathlib.Core.Path.{sym}
+use lib.ListN.{List·getD-eq-default}
+use borrow.Author.Needs.{needs}
+use Rattle.firing.proofs.fire.read.Statement.{statement}
+use Rattle.firing.proofs.fire.read.Tie as tie
+
+mul-result : tie.Need-mul-result
+mul-result c = search needs
+
+shared-slice-read-result : tie.Need-shared-slice-read-result
+shared-slice-read-result c = search needs
+
+returns : tie.Need-returns
+returns c = search needs
+
+returns-2 : tie.Need-returns-2
+returns-2 c = sym (List·getD-eq-default (c .before .args .table .now) 0 (c .if1 .left))
+
+pub read-spec : {M : Type 1} → statement M
+read-spec = tie.close (tie.spec mul-result shared-slice-read-result returns returns-2)

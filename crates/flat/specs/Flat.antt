@@ -1,0 +1,156 @@
+-- The flat twins of a kiosk's state, inputs and replies: what each number means, and which numbers the state's types can hold.
+-- Assumes nothing.
+use Prim.Native.Nat.{ℕ}
+use mathlib.Core.List.{List, [], _∷_, map}
+use mathlib.Core.Bool.{Bool, true, false, _&&_, _||_}
+use lib.ListN.{replicate}
+use lib.Dec.{leb, eqb}
+use Rattle.words.specs.Choice.{if_then_else_}
+use Rattle.roll.specs.declared.Roll.{Roll}
+use Rattle.rules.specs.declared.Phase.{Phase}
+use Rattle.rules.specs.declared.Phase.the-variants.{Fresh, Running, Settled}
+use Rattle.rules.specs.declared.Step.{Step}
+use Rattle.rules.specs.declared.Step.the-variants.{Propose, Prevote, Precommit}
+use Rattle.rules.specs.declared.Stand.{Stand}
+use Rattle.rules.specs.declared.Heard.{Heard}
+use Rattle.rules.specs.declared.Input.{Input}
+use Rattle.rules.specs.declared.Output.{Output}
+use Rattle.rules.specs.State.{settled-round}
+use Rattle.kiosk.specs.declared.Kiosk.{Kiosk}
+use Rattle.kiosk.specs.declared.Reply.{Reply}
+use Rattle.answers.specs.Answers.{number-of, place-of}
+use Rattle.flat.specs.declared.FlatHeard.{FlatHeard}
+use Rattle.flat.specs.declared.FlatKiosk.{FlatKiosk}
+use Rattle.flat.specs.declared.FlatInput.{FlatInput}
+use Rattle.flat.specs.declared.FlatOutput.{FlatOutput}
+use Rattle.flat.specs.declared.FlatReply.{FlatReply}
+
+-- a truth as 0 or 1
+abbrev pub flag : Bool → ℕ
+flag true = 1
+flag false = 0
+
+-- ## What is heard of a round
+
+abbrev pub heard-of : FlatHeard → Heard
+heard-of h = record { proposal = eqb (h .proposal) 1; good = eqb (h .good) 1; valid = h .valid; prevotes = h .prevotes; precommits = h .precommits }
+
+abbrev pub flat-heard : Heard → FlatHeard
+flat-heard h = record { prevotes = h .prevotes; precommits = h .precommits; proposal = flag (h .proposal); good = flag (h .good); valid = h .valid }
+
+abbrev pub heard-holds : FlatHeard → Bool
+heard-holds h = leb (h .proposal) 1 && leb (h .good) 1
+
+unfoldable pub all-hold : List FlatHeard → Bool
+all-hold [] = true
+all-hold (h ∷ hs) = heard-holds h && all-hold hs
+
+-- ## The state
+
+-- 0 not started yet, 1 running, 2 settled
+abbrev pub phase-number : Phase → ℕ
+phase-number Fresh = 0
+phase-number Running = 1
+phase-number (Settled r) = 2
+
+abbrev pub phase-of : ℕ → ℕ → Phase
+phase-of phase settled = if eqb phase 0 then Fresh else if eqb phase 1 then Running else Settled (record { 0 = settled })
+
+-- 0 propose, 1 prevote, 2 precommit
+abbrev pub step-number : Step → ℕ
+step-number Propose = 0
+step-number Prevote = 1
+step-number Precommit = 2
+
+abbrev pub step-of : ℕ → Step
+step-of step = if eqb step 0 then Propose else if eqb step 1 then Prevote else Precommit
+
+-- a phase and a step that there are, a settled round only where settled, and each 0 or 1 one of them
+unfoldable pub holds : FlatKiosk → Bool
+holds f =
+    leb (f .phase) 2 &&
+    (eqb (f .phase) 2 || eqb (f .settled) 0) &&
+    leb (f .step) 2 &&
+    leb (f .«asked_propose») 1 &&
+    leb (f .«asked_prevote») 1 &&
+    leb (f .«asked_precommit») 1 &&
+    leb (f .backed) 1 &&
+    all-hold (f .log)
+
+abbrev pub stand-of : FlatKiosk → Stand
+stand-of f = record {
+  round = record { 0 = f .round };
+  step = step-of (f .step);
+  asked = record { propose = eqb (f .«asked_propose») 1; prevote = eqb (f .«asked_prevote») 1; precommit = eqb (f .«asked_precommit») 1 };
+  backed = eqb (f .backed) 1;
+}
+
+abbrev pub roll-of : FlatKiosk → Roll
+roll-of f = record { kiosks = f .kiosks; powers = f .powers; own = f .own; height = record { 0 = f .height } }
+
+abbrev pub kiosk-of : FlatKiosk → Kiosk
+kiosk-of f = record {
+  state = record {
+    roll = roll-of f;
+    phase = phase-of (f .phase) (f .settled);
+    stand = stand-of f;
+    locked = record { next = f .«locked_next»; name = f .«locked_name» };
+    valid = record { next = f .«valid_next»; name = f .«valid_name» };
+    log = map heard-of (f .log);
+  };
+  used = f .used;
+  last = f .last;
+}
+
+abbrev pub flat-kiosk : Kiosk → FlatKiosk
+flat-kiosk k = record {
+  kiosks = k .state .roll .kiosks;
+  own = k .state .roll .own;
+  used = k .used;
+  last = k .last;
+  «locked_name» = k .state .locked .name;
+  «valid_name» = k .state .valid .name;
+  height = k .state .roll .height .0;
+  powers = k .state .roll .powers;
+  phase = phase-number (k .state .phase);
+  settled = settled-round (k .state .phase);
+  round = k .state .stand .round .0;
+  step = step-number (k .state .stand .step);
+  «asked_propose» = flag (k .state .stand .asked .propose);
+  «asked_prevote» = flag (k .state .stand .asked .prevote);
+  «asked_precommit» = flag (k .state .stand .asked .precommit);
+  backed = flag (k .state .stand .backed);
+  «locked_next» = k .state .locked .next;
+  «valid_next» = k .state .valid .next;
+  log = map flat-heard (k .state .log);
+}
+
+-- ## Inputs, outputs, replies
+
+abbrev pub input-of : FlatInput → Input
+input-of i = record {
+  kind = i .kind;
+  height = record { 0 = i .height };
+  sender = i .sender;
+  round = record { 0 = i .round };
+  valid = i .valid;
+  verdict = i .verdict;
+  name = i .name;
+  offer = i .offer;
+}
+
+abbrev pub flat-output : Output → FlatOutput
+flat-output o = record { name = o .name; kind = o .kind; round = o .round .0; valid = o .valid }
+
+abbrev pub flat-reply : Reply → FlatReply
+flat-reply r = record {
+  number = number-of (r .answer);
+  place = place-of (r .answer);
+  count = r .sent .count;
+  sent = map flat-output (r .sent .list);
+  kiosk = flat-kiosk (r .kiosk);
+}
+
+-- refusal 1: no output, and the state that was given
+abbrev pub impossible : FlatKiosk → FlatReply
+impossible f = record { number = 1; place = 0; count = 0; sent = replicate 6 (record { name = 0; kind = 0; round = 0; valid = 0 }); kiosk = f }

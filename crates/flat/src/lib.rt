@@ -1,0 +1,65 @@
+// Flat twins of the structs that cross to C: plain numbers, laid out as include/slipcoacher.h has them.
+pub mod log;
+pub mod sent;
+pub mod state;
+
+#[repr(C)]
+pub struct FlatHeard {
+    pub prevotes: u32,
+    pub precommits: u32,
+    pub proposal: u8,
+    pub good: u8,
+    pub valid: u8,
+}
+
+#[repr(C)]
+pub struct FlatKiosk {
+    pub kiosks: usize,
+    pub own: usize,
+    pub used: usize,
+    pub last: usize,
+    pub locked_name: u64,
+    pub valid_name: u64,
+    pub height: u32,
+    pub powers: [u16; 32],
+    pub phase: u8,
+    pub settled: u8,
+    pub round: u8,
+    pub step: u8,
+    pub asked_propose: u8,
+    pub asked_prevote: u8,
+    pub asked_precommit: u8,
+    pub backed: u8,
+    pub locked_next: u8,
+    pub valid_next: u8,
+    pub log: [FlatHeard; 16],
+}
+
+#[repr(C)]
+pub struct FlatInput {
+    pub name: u64,
+    pub offer: u64,
+    pub height: u32,
+    pub kind: u8,
+    pub sender: u8,
+    pub round: u8,
+    pub valid: u8,
+    pub verdict: u8,
+}
+
+#[repr(C)]
+pub struct FlatOutput {
+    pub name: u64,
+    pub kind: u8,
+    pub round: u8,
+    pub valid: u8,
+}
+
+#[repr(C)]
+pub struct FlatReply {
+    pub number: u32,
+    pub place: usize,
+    pub count: usize,
+    pub sent: [FlatOutput; 6],
+    pub kiosk: FlatKiosk,
+}

@@ -1,0 +1,112 @@
+-- `refusals::possible::desk_fits` meets its contract: each test is asked where those before it hold. Assumes nothing.
+use mathlib.Core.Path.{_≡_, sym, _∙_}
+use mathlib.Core.Bool.{true}
+use borrow.Author.Tests.{not-true, not-false}
+use Rattle.roll.specs.Weighing.{roll-fits, own-fits}
+use Rattle.refusals.proofs.Judging.{roll-not, own-not, places-not, round-not, settled-not, rounds-not, held-not, held-then, few-kiosks, ready, Begun}
+use borrow.Author.Needs.{needs}
+use Rattle.refusals.proofs.possible.desk_fits.Statement.{statement}
+use Rattle.refusals.proofs.possible.desk_fits.Tie as tie
+
+-- what is known where each test holds
+roll-fit : (c : tie.Else1) → roll-fits (c .before .before .before .before .args .s .roll) ≡ true
+roll-fit c = sym (c .before .fits2 .ensures) ∙ not-false (c .before .fits2 .result) (c .if1 .left)
+
+own-fit : (c : tie.Else2) → own-fits (c .before .before .before .before .before .before .args .s .roll) ≡ true
+own-fit c = sym (c .before .own-fits .ensures) ∙ not-false (c .before .own-fits .result) (c .if2 .left)
+
+has-begun : (c : tie.Else5)
+    → let a = c .before .before .before .before .before .before .before .before .before .before .before .args in Begun (a .s) (a .table .now)
+has-begun c =
+    let d = c .before .before in
+    let b = d .before .before .before in
+    record {
+      roll = roll-fit (b .before .before);
+      own = own-fit b;
+      places = d .before .before .if3 .left;
+      round = d .if4 .left;
+      settled = rw (c .before .settled-round .ensures) at (c .if5 .left);
+    }
+
+fits-requires : tie.Need-fits-requires
+fits-requires c κs = search needs
+
+returns : tie.Need-returns
+returns c = roll-not _ _ (sym (c .before .fits2 .ensures) ∙ not-true (c .before .fits2 .result) (c .if1 .taken))
+
+own-fits-requires : tie.Need-own-fits-requires
+own-fits-requires c κs = search needs
+
+returns-2 : tie.Need-returns-2
+returns-2 c = own-not _ _ (roll-fit (c .before .before)) (sym (c .before .own-fits .ensures) ∙ not-true (c .before .own-fits .result) (c .if2 .taken))
+
+returns-3 : tie.Need-returns-3
+returns-3 c = places-not _ _ (roll-fit (c .before .before .before)) (own-fit (c .before)) (c .if3 .taken)
+
+returns-4 : tie.Need-returns-4
+returns-4 c =
+    let b = c .before .before .before in
+    round-not _ _ (roll-fit (b .before .before)) (own-fit b) (c .before .before .if3 .left) (c .if4 .taken)
+
+settled-round-requires : tie.Need-settled-round-requires
+settled-round-requires c κs = search needs
+
+returns-5 : tie.Need-returns-5
+returns-5 c =
+    let d = c .before .before in
+    let b = d .before .before .before in
+    settled-not _ _ (roll-fit (b .before .before)) (own-fit b) (d .before .before .if3 .left) (d .if4 .left) (c .before .settled-round .ensures) (c .if5 .taken)
+
+rounds-fit-requires : tie.Need-rounds-fit-requires
+rounds-fit-requires c κs = let e = has-begun c in (few-kiosks _ (e .roll), e .places)
+
+returns-6 : tie.Need-returns-6
+returns-6 c = rounds-not _ _ (has-begun (c .before .before)) (c .before .rounds-fit .ensures) (c .if6 .taken)
+
+held-fits-requires : tie.Need-held-fits-requires
+held-fits-requires c κs = search needs
+
+held-fits-requires-2 : tie.Need-held-fits-requires-2
+held-fits-requires-2 c κs = search needs
+
+returns-7 : tie.Need-returns-7
+returns-7 c =
+    let h = c .before in
+    let g = h .before .before .before in
+    held-not _ _ (has-begun (g .before .before)) (g .before .rounds-fit .ensures) (g .if6 .left) (h .before .held-fits .ensures) (h .held-fits2 .ensures) (c .if7 .taken)
+
+total-requires : tie.Need-total-requires
+total-requires c κs = few-kiosks _ (has-begun (c .before .before .before .before .before .before) .roll)
+
+at-rest-requires : tie.Need-at-rest-requires
+at-rest-requires c κs =
+    let e = has-begun (c .before .before .before .before .before .before .before) in
+    (ready _ _ (e .roll) (e .own) (e .places) (e .round), c .total .ensures)
+
+returns-8 : tie.Need-returns-8
+returns-8 c =
+    let k = c .before .before in
+    let h = k .before in
+    let g = h .before .before .before in
+    held-then _ _ (has-begun (g .before .before)) (g .before .rounds-fit .ensures) (g .if6 .left) (h .before .held-fits .ensures) (h .held-fits2 .ensures) (k .if7 .left) (c .at-rest .ensures)
+
+pub desk-fits-spec : {M : Type 1} → statement M
+desk-fits-spec =
+    tie.close
+    (tie.spec
+    fits-requires
+    returns
+    own-fits-requires
+    returns-2
+    returns-3
+    returns-4
+    settled-round-requires
+    returns-5
+    rounds-fit-requires
+    returns-6
+    held-fits-requires
+    held-fits-requires-2
+    returns-7
+    total-requires
+    at-rest-requires
+    returns-8)

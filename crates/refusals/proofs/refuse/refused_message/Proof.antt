@@ -1,0 +1,111 @@
+-- `refusals::refuse::refused_message` meets its contract: each test is asked where those before it hold. Assumes nothing.
+use Prim.Native.Nat.{ℕ}
+use mathlib.Core.Path.{_≡_}
+use mathlib.Core.List.{List}
+use Rattle.rules.specs.Log.{desk}
+use Rattle.refusals.specs.Refusals.{refused-message}
+use Rattle.refusals.proofs.Judging.{own-number, not-proposer, sender-passes, heard-or-due, heard-same, heard-other, not-due, last-round, accepted}
+use borrow.Author.Needs.{needs}
+use Rattle.refusals.proofs.refuse.refused_message.Statement.{statement}
+use Rattle.refusals.proofs.refuse.refused_message.Tie as tie
+
+abbrev table-of : tie.Else2 → List ℕ
+table-of c = c .before .before .before .before .before .before .before .before .before .before .args .table .now
+
+-- what is known where the sender is one whose turn it is
+passes : (c : tie.Else2)
+    → let a = c .before .before .before .before .before .before .before .before .before .before .args in
+    refused-message (desk (a .s) (table-of c)) (a .i) ≡ heard-or-due (desk (a .s) (table-of c)) (a .i)
+passes c =
+    let b = c .before .before .before in
+    let v = b .before .before in
+    sender-passes _ _ _ (v .before .is-proposal .ensures) (v .is-vote .ensures) (b .if1 .left) (c .before .before .is-proposal2 .ensures) (c .before .proposer .ensures) (c .if2 .left)
+
+cast-seat : tie.Need-cast-seat
+cast-seat c = search needs
+
+is-proposal-requires : tie.Need-is-proposal-requires
+is-proposal-requires c κs = search needs
+
+is-vote-requires : tie.Need-is-vote-requires
+is-vote-requires c κs = search needs
+
+returns : tie.Need-returns
+returns c =
+    let v = c .before .before in
+    own-number _ _ _ (v .before .is-proposal .ensures) (v .is-vote .ensures) (c .if1 .taken)
+
+is-proposal-requires-2 : tie.Need-is-proposal-requires-2
+is-proposal-requires-2 c κs = search needs
+
+proposer-requires : tie.Need-proposer-requires
+proposer-requires c κs = search needs
+
+returns-2 : tie.Need-returns-2
+returns-2 c =
+    let b = c .before .before .before in
+    let v = b .before .before in
+    not-proposer _ _ _ (v .before .is-proposal .ensures) (v .is-vote .ensures) (b .if1 .left) (c .before .before .is-proposal2 .ensures) (c .before .proposer .ensures) (c .if2 .taken)
+
+place-heard-requires : tie.Need-place-heard-requires
+place-heard-requires c κs = search needs
+
+same-heard-requires : tie.Need-same-heard-requires
+same-heard-requires c κs = search needs
+
+returns-3 : tie.Need-returns-3
+returns-3 c =
+    let h = c .before .before in
+    heard-same _ _ _ (passes (h .before .before)) (h .before .place-heard .ensures (table-of (h .before .before))) (h .if3 .taken) (c .before .same-heard .ensures) (c .if4 .taken)
+
+returns-4 : tie.Need-returns-4
+returns-4 c =
+    let h = c .before .before in
+    heard-other _ _ _ (passes (h .before .before)) (h .before .place-heard .ensures (table-of (h .before .before))) (h .if3 .taken) (c .before .same-heard .ensures) (c .if4 .left)
+
+is-timer-requires : tie.Need-is-timer-requires
+is-timer-requires c κs = search needs
+
+timer-due-requires : tie.Need-timer-due-requires
+timer-due-requires c κs = search needs
+
+returns-5 : tie.Need-returns-5
+returns-5 c =
+    let h = c .before .before .before in
+    let t = table-of (h .before .before) in
+    not-due _ _ _ (passes (h .before .before)) (h .before .place-heard .ensures t) (h .if3 .left) (c .before .before .is-timer .ensures) (c .before .timer-due .ensures t) (c .if5 .taken)
+
+returns-6 : tie.Need-returns-6
+returns-6 c =
+    let k = c .before .before .before in
+    let h = k .before .before .before in
+    let t = table-of (h .before .before) in
+    last-round _ _ _ (passes (h .before .before)) (h .before .place-heard .ensures t) (h .if3 .left) (k .before .before .is-timer .ensures) (k .before .timer-due .ensures t) (k .if5 .left) (c .if6 .taken)
+
+returns-7 : tie.Need-returns-7
+returns-7 c =
+    let k = c .before .before .before in
+    let h = k .before .before .before in
+    let t = table-of (h .before .before) in
+    accepted _ _ _ (passes (h .before .before)) (h .before .place-heard .ensures t) (h .if3 .left) (k .before .before .is-timer .ensures) (k .before .timer-due .ensures t) (k .if5 .left) (c .if6 .left)
+
+pub refused-message-spec : {M : Type 1} → statement M
+refused-message-spec =
+    tie.close
+    (tie.spec
+    cast-seat
+    is-proposal-requires
+    is-vote-requires
+    returns
+    is-proposal-requires-2
+    proposer-requires
+    returns-2
+    place-heard-requires
+    same-heard-requires
+    returns-3
+    returns-4
+    is-timer-requires
+    timer-due-requires
+    returns-5
+    returns-6
+    returns-7)

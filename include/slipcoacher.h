@@ -1,0 +1,179 @@
+/*
+ * Slipcoacher: the engine of one kiosk, one height, one journal, for firmware to link (libboard.a).
+ *
+ * Who owns what. The caller owns every byte. The library keeps nothing between calls: no heap, no static data, no thread, no clock.
+ * A lent area is a pointer and a length; the pointer is never null, not even with length 0, and areas do not overlap.
+ *   journal  the bytes of the log partition. Creating writes its header, putting one group at the used length; opening only reads.
+ *   table    SLIP_TABLE numbers beside the state. Opening fills it, putting changes it; keep it with the state.
+ *   kiosk    the state. It goes in by value and comes back in the reply; the next call takes the one of the last reply.
+ *
+ * The order of write and send. When putting returns number 0, the group stands in the lent journal. Make those bytes durable (the part
+ * that slip_last gives), and only then send the reply's outputs. A kiosk that sends first can forget its own vote in a power cut.
+ *
+ * Refusals. Every number may be written into any field: a call never traps. A refused call returns its number, changes no byte and no
+ * number that was lent, has no output, and returns the state that it was given (opening: the unopened state).
+ */
+#ifndef SLIPCOACHER_H
+#define SLIPCOACHER_H
+
+#include <stddef.h>
+#include <stdint.h>
+
+#ifdef __cplusplus
+extern "C" {
+#endif
+
+#define SLIP_KIOSKS 32    /* the most kiosks of a roll */
+#define SLIP_ROUNDS 16    /* rounds 0 to 15 */
+#define SLIP_TABLE 1040   /* the numbers of the table */
+#define SLIP_SENT 6       /* the most outputs of a call */
+#define SLIP_ROOMY 28499  /* journal bytes for 32 kiosks in which no call is refused for room; also the most that is listed */
+#define SLIP_TEXT 114196  /* the text room that every listing fits */
+
+/* What a call answers. */
+enum slip_number {
+    SLIP_ACCEPTED = 0,
+    SLIP_IMPOSSIBLE = 1,       /* state, table or used length impossible */
+    SLIP_ALREADY_SETTLED = 2,
+    SLIP_OUT_OF_ORDER = 3,     /* not started and no start, or a second start */
+    SLIP_OTHER_HEIGHT = 4,
+    SLIP_BAD_FIELD = 5,
+    SLIP_OWN_NUMBER = 6,       /* a message from the own seat */
+    SLIP_NOT_PROPOSER = 7,
+    SLIP_HEARD_SAME = 8,
+    SLIP_HEARD_OTHER = 9,
+    SLIP_TIMER_NOT_DUE = 10,
+    SLIP_LAST_ROUND = 11,
+    SLIP_NO_ROOM = 12,         /* the group, header or text does not fit */
+    SLIP_HEADER_SHORT = 13,
+    SLIP_DAMAGED = 14,         /* the reply's place says where */
+    SLIP_BAD_ROLL = 15
+};
+
+enum slip_phase { SLIP_FRESH = 0, SLIP_RUNNING = 1, SLIP_SETTLED = 2 };
+enum slip_step { SLIP_PROPOSE = 0, SLIP_PREVOTE = 1, SLIP_PRECOMMIT = 2 };
+
+enum slip_input_kind {
+    SLIP_IN_START = 1, SLIP_IN_PROPOSAL = 2, SLIP_IN_PREVOTE = 3, SLIP_IN_PRECOMMIT = 4,
+    SLIP_IN_TIMER_PROPOSE = 5, SLIP_IN_TIMER_PREVOTE = 6, SLIP_IN_TIMER_PRECOMMIT = 7
+};
+
+enum slip_output_kind {
+    SLIP_OUT_PROPOSAL = 1, SLIP_OUT_PREVOTE = 2, SLIP_OUT_PRECOMMIT = 3,
+    SLIP_OUT_ASK_PROPOSE = 4, SLIP_OUT_ASK_PREVOTE = 5, SLIP_OUT_ASK_PRECOMMIT = 6, SLIP_OUT_SETTLED = 7
+};
+
+/* What is heard of a round, names aside (the table has those). */
+struct slip_heard {
+    uint32_t prevotes;   /* bit i: the prevote of seat i is heard */
+    uint32_t precommits; /* bit i: the precommit of seat i is heard */
+    uint8_t proposal;    /* 1: the proposal is heard; over 1 is refusal 1, as in every field of 0 or 1 */
+    uint8_t good;        /* 1: its verdict was good */
+    uint8_t valid;       /* its valid round plus one */
+};
+
+/* The state of a kiosk. Zeros are the unopened state. */
+struct slip_kiosk {
+    size_t kiosks;          /* how many are on the roll; 0: unopened */
+    size_t own;             /* the own seat */
+    size_t used;            /* the journal's used length */
+    size_t last;            /* where its last whole group starts; the used length when there is none */
+    uint64_t locked_name;   /* the locked sheet, 0: none */
+    uint64_t valid_name;    /* the valid sheet, 0: none */
+    uint32_t height;
+    uint16_t powers[SLIP_KIOSKS];
+    uint8_t phase;          /* slip_phase; another is refusal 1 */
+    uint8_t settled;        /* the round of the settled sheet; 0 unless settled, or refusal 1 */
+    uint8_t round;
+    uint8_t step;           /* slip_step; another is refusal 1 */
+    uint8_t asked_propose;  /* 1: the timer was asked for in this round */
+    uint8_t asked_prevote;
+    uint8_t asked_precommit;
+    uint8_t backed;         /* 1: a sheet was backed in this round */
+    uint8_t locked_next;    /* the locked sheet's round plus one, 0: none */
+    uint8_t valid_next;     /* the valid sheet's round plus one, 0: none */
+    struct slip_heard log[SLIP_ROUNDS];
+};
+
+struct slip_input {
+    uint64_t name;    /* the sheet's name, 0 for nil */
+    uint64_t offer;   /* the sheet that this kiosk would propose now, 0 for none */
+    uint32_t height;
+    uint8_t kind;     /* slip_input_kind */
+    uint8_t sender;   /* a seat */
+    uint8_t round;
+    uint8_t valid;    /* a proposal's valid round plus one */
+    uint8_t verdict;  /* of a proposal: 1 good, 0 bad */
+};
+
+struct slip_output {
+    uint64_t name;
+    uint8_t kind;     /* slip_output_kind */
+    uint8_t round;
+    uint8_t valid;    /* a proposal's valid round plus one */
+};
+
+struct slip_reply {
+    uint32_t number;                     /* slip_number */
+    size_t place;                        /* of SLIP_DAMAGED, else 0 */
+    size_t count;                        /* how many outputs to send, in order; the rest of sent is zeros */
+    struct slip_output sent[SLIP_SENT];
+    struct slip_kiosk kiosk;             /* the next state */
+};
+
+struct slip_made {
+    uint32_t number;
+    size_t used;      /* the used length; 0 when refused */
+};
+
+/* A part of the lent journal. */
+struct slip_part {
+    size_t from;
+    size_t count;
+};
+
+struct slip_page {
+    uint32_t number;  /* 0, or SLIP_NO_ROOM for a text area below SLIP_TEXT */
+    size_t size;      /* the bytes of text */
+};
+
+/* A journal with this roll, own seat and height, in the lent area. */
+struct slip_made slip_create(const uint16_t *powers, size_t kiosks, size_t own, uint32_t height, uint8_t *journal, size_t area);
+
+/* The kiosk whose journal the first `used` bytes of the area are. An unfinished group at the end is dropped: the reply's kiosk.used
+ * stops before it. After 13 and 14 the table is all 0, after 1 it is untouched. */
+struct slip_reply slip_open(const uint8_t *journal, size_t area, size_t used, uint64_t *table, size_t places);
+
+/* One input. */
+struct slip_reply slip_put(struct slip_kiosk kiosk, struct slip_input input, uint64_t *table, size_t places, uint8_t *journal, size_t area);
+
+/* The last whole group, as a part of the lent journal; empty (0, 0) when none fits. */
+struct slip_part slip_last(struct slip_kiosk kiosk, const uint8_t *journal, size_t area);
+
+/* The listing of a journal's bytes, written at the start of the text area. */
+struct slip_page slip_list(const uint8_t *journal, size_t count, uint8_t *text, size_t room);
+
+/* For a caller to see that its compiler lays the fields as the library does. Fields are numbered from 0 in the order of the structs
+ * above; a field of an array, or of the log's array of structs, takes an index too, which is not looked at for the others. */
+enum slip_kiosk_field {
+    SLIP_F_KIOSKS, SLIP_F_OWN, SLIP_F_USED, SLIP_F_LAST, SLIP_F_LOCKED_NAME, SLIP_F_VALID_NAME, SLIP_F_HEIGHT, SLIP_F_POWERS,
+    SLIP_F_PHASE, SLIP_F_SETTLED, SLIP_F_ROUND, SLIP_F_STEP, SLIP_F_ASKED_PROPOSE, SLIP_F_ASKED_PREVOTE, SLIP_F_ASKED_PRECOMMIT,
+    SLIP_F_BACKED, SLIP_F_LOCKED_NEXT, SLIP_F_VALID_NEXT,
+    SLIP_F_LOG_PREVOTES, SLIP_F_LOG_PRECOMMITS, SLIP_F_LOG_PROPOSAL, SLIP_F_LOG_GOOD, SLIP_F_LOG_VALID
+};
+
+/* The number in a field; 0 for a field or an index that there is not. */
+uint64_t slip_kiosk_number(struct slip_kiosk kiosk, size_t field, size_t index);
+
+/* The same of an input: 0 name, 1 offer, 2 height, 3 kind, 4 sender, 5 round, 6 valid, 7 verdict. */
+uint64_t slip_input_number(struct slip_input input, size_t field);
+
+/* A reply with `first` as its number, first + 1 as its place, first + 2 as its count; output i has name first + 4i + 3, kind first +
+ * 4i + 4, round first + 4i + 5 and valid first + 4i + 6; the state is the one given. `first` over 200 counts as 200. */
+struct slip_reply slip_layout(struct slip_kiosk kiosk, uint8_t first);
+
+#ifdef __cplusplus
+}
+#endif
+
+#endif

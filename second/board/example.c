@@ -1,0 +1,35 @@
+/* One kiosk of four: its journal created and opened, a start and a vote put, the last group shown. */
+#include "slipcoacher.h"
+#include <stdio.h>
+
+static uint8_t journal[SLIP_ROOMY];
+static uint64_t table[SLIP_TABLE];
+
+static struct slip_kiosk put(struct slip_kiosk kiosk, struct slip_input input, const char *what)
+{
+    struct slip_reply reply = slip_put(kiosk, input, table, SLIP_TABLE, journal, sizeof journal);
+    printf("%s: number %u, %zu outputs\n", what, (unsigned)reply.number, reply.count);
+    /* Here the last group is made durable; only then are the outputs sent. */
+    for (size_t i = 0; i < reply.count; i++)
+        printf("  kind %u round %u name %llu\n", reply.sent[i].kind, reply.sent[i].round, (unsigned long long)reply.sent[i].name);
+    return reply.kiosk;
+}
+
+int main(void)
+{
+    const uint16_t powers[4] = {1, 1, 1, 1};
+    struct slip_made made = slip_create(powers, 4, 0, 1, journal, sizeof journal);
+    if (made.number != SLIP_ACCEPTED)
+        return 1;
+    printf("created: %zu bytes\n", made.used);
+    struct slip_reply reply = slip_open(journal, sizeof journal, made.used, table, SLIP_TABLE);
+    if (reply.number != SLIP_ACCEPTED)
+        return 1;
+    struct slip_kiosk kiosk = reply.kiosk;
+    printf("opened: kiosk %zu of %zu, height %u\n", kiosk.own, kiosk.kiosks, (unsigned)kiosk.height);
+    kiosk = put(kiosk, (struct slip_input){.kind = SLIP_IN_START, .height = 1, .offer = 9}, "start");
+    kiosk = put(kiosk, (struct slip_input){.kind = SLIP_IN_PREVOTE, .height = 1, .sender = 1, .name = 50}, "prevote");
+    struct slip_part part = slip_last(kiosk, journal, sizeof journal);
+    printf("last group: %zu bytes at %zu\n", part.count, part.from);
+    return 0;
+}
