@@ -1,17 +1,16 @@
 -- The rounds that rules 49 and 55 look for: which of them close, and which cannot call. Assumes nothing.
-use Prim.Native.Nat.{ℕ, _*_, _≤_}
-use mathlib.Core.Path.{_≡_, ap, sym, _∙_}
+use Prim.Native.Nat.{ℕ, _≤_}
+use mathlib.Core.Path.{_≡_}
 use mathlib.Core.List.{List}
-use mathlib.Core.Bool.{Bool, true, false, _&&_, _||_, not}
+use mathlib.Core.Bool.{true, false, _&&_, not}
 use native.Mathlib.Omega.{arith}
 use borrow.Author.Tests.{eq-eqb, ne-eqb, le-ltb, eqb-true, not-true}
 use lib.Dec.{eqb, ltb}
 use lib.ListN.{getD}
 use Rattle.words.specs.Choice.{past-highest-below, first-of}
-use Rattle.words.specs.Marks.{marked}
 use Rattle.words.proofs.Choice.{highest-none, and-left, and-right, and-false}
 use Rattle.words.proofs.MarkLaws.{marked-zero}
-use Rattle.roll.specs.Weighing.{total-of, proposer, power-of}
+use Rattle.roll.specs.Weighing.{total-of}
 use Rattle.roll.proofs.Weighing.{power-none}
 use Rattle.rules.specs.declared.Heard.{Heard}
 use Rattle.rules.specs.declared.State.{State}

@@ -52,6 +52,7 @@ past false x y off e = (refl, e)
 -- ## What refusal 1 has looked at
 
 pub record Fits (d : Desk) : Type 0 where
+  pub roll : roll-fits (d .state .roll) ≡ true
   pub some-kiosks : 1 ≤ d .state .roll .kiosks
   pub few-kiosks : d .state .roll .kiosks ≤ 32
   pub own-on-roll : own d < d .state .roll .kiosks
@@ -91,6 +92,7 @@ fits d e =
     let r2 = and-left (n1 && n2 && n3) n4 r3 in
     let r1 = and-left (n1 && n2) n3 r2 in
     record {
+      roll = r4;
       some-kiosks = leb-true 1 (roll .kiosks) (and-left n1 n2 r1);
       few-kiosks = leb-true (roll .kiosks) most-kiosks (and-right n1 n2 r1);
       own-on-roll = ltb-true (own d) (roll .kiosks) (and-right a b e2);

@@ -90,3 +90,9 @@ all-holds (suc n) p e k h =
     (λ same. rw same (and-right (all-below n p) (p n) e))
     (λ less. all-holds n p (and-left (all-below n p) (p n) e) k less)
     (eq-or-lt-of-le {n = k} {m = n} (omega arith))
+
+-- and one that holds at each of them holds at all
+pub all-so : (n : ℕ) (p : ℕ → Bool) → ((k : ℕ) → k < n → p k ≡ true) → all-below n p ≡ true
+unfolding all-below
+all-so zero p f = refl
+all-so (suc n) p f = rw (all-so n p (λ k l. f k (omega arith)), f n (omega arith))

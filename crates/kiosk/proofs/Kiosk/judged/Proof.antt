@@ -2,7 +2,6 @@
 use mathlib.Core.Path.{sym, _∙_}
 use borrow.Author.Tests.{not-true, not-false}
 use Rattle.kiosk.specs.Judged.{judged}
-use Rattle.refusals.proofs.Judging.{desk-ready}
 use borrow.Author.Needs.{needs}
 use Rattle.kiosk.proofs.Kiosk.judged.Statement.{statement}
 use Rattle.kiosk.proofs.Kiosk.judged.Tie as tie
@@ -14,34 +13,11 @@ returns : tie.Need-returns
 unfolding judged
 returns c = rw (sym (c .before .desk-fits .ensures) ∙ not-true (c .before .desk-fits .result) (c .if1 .taken))
 
-used-fits-requires : tie.Need-used-fits-requires
-used-fits-requires c κs = search needs
+judged-possible-requires : tie.Need-judged-possible-requires
+judged-possible-requires c κs = sym (c .before .desk-fits .ensures) ∙ not-false (c .before .desk-fits .result) (c .if1 .left)
 
 returns-2 : tie.Need-returns-2
-unfolding judged
-returns-2 c =
-    let a = c .before .before in
-    rw (sym (a .before .desk-fits .ensures) ∙ not-false (a .before .desk-fits .result) (a .if1 .left), sym (c .before .used-fits .ensures) ∙ not-true (c .before .used-fits .result) (c .if2 .taken))
-
-refused-input-requires : tie.Need-refused-input-requires
-refused-input-requires c κs =
-    let a = c .before .before in
-    desk-ready _ _ (sym (a .before .desk-fits .ensures) ∙ not-false (a .before .desk-fits .result) (a .if1 .left))
-
-returns-3 : tie.Need-returns-3
-unfolding judged
-returns-3 c =
-    let b = c .before in
-    let a = b .before .before in
-    rw (c .refused-input .ensures, sym (a .before .desk-fits .ensures) ∙ not-false (a .before .desk-fits .result) (a .if1 .left), sym (b .before .used-fits .ensures) ∙ not-false (b .before .used-fits .result) (b .if2 .left))
+returns-2 c = c .judged-possible .ensures
 
 pub judged-spec : {M : Type 1} → statement M
-judged-spec =
-    tie.close
-    (tie.spec
-    desk-fits-requires
-    returns
-    used-fits-requires
-    returns-2
-    refused-input-requires
-    returns-3)
+judged-spec = tie.close (tie.spec desk-fits-requires returns judged-possible-requires returns-2)
