@@ -7,17 +7,24 @@ CARGO := cargo --offline
 SOAK_CALLS ?= 10000000
 FUZZ_SECONDS ?= 60
 
-.PHONY: test soak fuzz bench demo staticlib tools
+# Checks at a time: two to a core keep both cores busy while the last of a batch ends.
+export RT_JOBS ?= 4
+
+.PHONY: test rust soak fuzz bench demo staticlib tools
 
 # $(call need,COMMAND,PACKAGE)
 need = @command -v $(1) > /dev/null || { apt-get update && apt-get install -y $(2); }
 
 # The Rust tests of second/, the proved library among them through its C interface; then the proofs, the must-fail edits and the programs.
 # rt ci removes target/ and with it the library, so it comes last. Its last line is the verdict.
-test: staticlib
-	cd second && $(CARGO) test --release --quiet
+test:
+	+@$(MAKE) --no-print-directory --output-sync=target -j2 staticlib rust
 	cd second && $(CARGO) test --release --quiet -p board -- --show-output
 	rt ci
+
+# The Rust tests that need no proved library.
+rust: tools
+	cd second && $(CARGO) test --release --quiet
 
 # The same comparisons over many more calls, longer deliveries and more journals.
 soak: staticlib
@@ -51,11 +58,12 @@ demo: tools
 	@rm -f target.log
 	@target/bin/lister < demo/one-kiosk.journal
 
-# target/staticlib/libboard.a, proved by the same command.
+# target/staticlib/libboard.a, proved by the same command; what board needs is proved first, side by side.
 staticlib: tools
+	rt check $(shell sed -n 's/^board: *//p' crates.txt)
 	rt staticlib board
 
 tools:
-	$(call need,cargo,cargo)
+	$(call need,cargo,cargo-web rustc-web)
 	$(call need,gcc,gcc)
 	@command -v rt > /dev/null || { echo 'rt, the command of the Rattle kit, is not on the PATH' >&2; exit 1; }

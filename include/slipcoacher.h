@@ -11,7 +11,8 @@
  * that slip_last gives), and only then send the reply's outputs. A kiosk that sends first can forget its own vote in a power cut.
  *
  * Refusals. Every number may be written into any field: a call never traps. A refused call returns its number, changes no byte and no
- * number that was lent, has no output, and returns the state that it was given (opening: the unopened state).
+ * number that was lent, has no output, and returns the state that it was given. Opening differs: refused, it returns the unopened
+ * state, and after 13 and 14 the table is all 0.
  */
 #ifndef SLIPCOACHER_H
 #define SLIPCOACHER_H
@@ -52,6 +53,7 @@ enum slip_number {
 
 enum slip_phase { SLIP_FRESH = 0, SLIP_RUNNING = 1, SLIP_SETTLED = 2 };
 enum slip_step { SLIP_PROPOSE = 0, SLIP_PREVOTE = 1, SLIP_PRECOMMIT = 2 };
+enum slip_proposal { SLIP_PROPOSAL_NONE = 0, SLIP_PROPOSAL_BAD = 1, SLIP_PROPOSAL_GOOD = 2 }; /* none heard; with verdict 0; 1 */
 
 enum slip_input_kind {
     SLIP_IN_START = 1, SLIP_IN_PROPOSAL = 2, SLIP_IN_PREVOTE = 3, SLIP_IN_PRECOMMIT = 4,
@@ -67,8 +69,7 @@ enum slip_output_kind {
 struct slip_heard {
     uint32_t prevotes;   /* bit i: the prevote of seat i is heard */
     uint32_t precommits; /* bit i: the precommit of seat i is heard */
-    uint8_t proposal;    /* 1: the proposal is heard; over 1 is refusal 1, as in every field of 0 or 1 */
-    uint8_t good;        /* 1: its verdict was good */
+    uint8_t proposal;    /* slip_proposal; another is refusal 1 */
     uint8_t valid;       /* its valid round plus one */
 };
 
@@ -86,7 +87,7 @@ struct slip_kiosk {
     uint8_t settled;        /* the round of the settled sheet; 0 unless settled, or refusal 1 */
     uint8_t round;
     uint8_t step;           /* slip_step; another is refusal 1 */
-    uint8_t asked_propose;  /* 1: the timer was asked for in this round */
+    uint8_t asked_propose;  /* 1: the timer was asked for in this round; over 1 is refusal 1, as in every field of 0 or 1 */
     uint8_t asked_prevote;
     uint8_t asked_precommit;
     uint8_t backed;         /* 1: a sheet was backed in this round */
@@ -159,7 +160,7 @@ enum slip_kiosk_field {
     SLIP_F_KIOSKS, SLIP_F_OWN, SLIP_F_USED, SLIP_F_LAST, SLIP_F_LOCKED_NAME, SLIP_F_VALID_NAME, SLIP_F_HEIGHT, SLIP_F_POWERS,
     SLIP_F_PHASE, SLIP_F_SETTLED, SLIP_F_ROUND, SLIP_F_STEP, SLIP_F_ASKED_PROPOSE, SLIP_F_ASKED_PREVOTE, SLIP_F_ASKED_PRECOMMIT,
     SLIP_F_BACKED, SLIP_F_LOCKED_NEXT, SLIP_F_VALID_NEXT,
-    SLIP_F_LOG_PREVOTES, SLIP_F_LOG_PRECOMMITS, SLIP_F_LOG_PROPOSAL, SLIP_F_LOG_GOOD, SLIP_F_LOG_VALID
+    SLIP_F_LOG_PREVOTES, SLIP_F_LOG_PRECOMMITS, SLIP_F_LOG_PROPOSAL, SLIP_F_LOG_VALID
 };
 
 /* The number in a field; 0 for a field or an index that there is not. */

@@ -21,6 +21,7 @@ ghost use Prim.Native.Nat.{ℕ, _<_, _≤_};
 ghost use mathlib.Core.Path.{_≡_};
 ghost use mathlib.Core.List.{List};
 ghost use mathlib.Core.Bool.{true};
+ghost use Rattle.words.specs.Choice.{if_then_else_};
 ghost use Rattle.rules.specs.declared.Output.{Output};
 ghost use Rattle.rules.specs.State.{entered, with-phase, with-stand, with-locked, with-valid, with-step, with-asked, with-backed};
 ghost use Rattle.rules.specs.Log.{desk, hear-proposal, hear-prevote, hear-precommit};
@@ -253,6 +254,13 @@ fn ask_precommit(state: State) -> Act
     )
 }
 
+// How a proposal is heard: 2 with verdict 1, 1 with verdict 0.
+fn proposal_heard(good: bool) -> u8
+    ensures { λ n. ⌜ n ≡ (if good then 2 else 1) ⌝ }
+{
+    if good { 2 } else { 1 }
+}
+
 // A message put in the log, over anything held in its place.
 
 fn hear_proposal(state: State, r: Round, good: bool, valid: u8) -> State
@@ -263,11 +271,10 @@ fn hear_proposal(state: State, r: Round, good: bool, valid: u8) -> State
     state.with_heard(
         r,
         Heard {
-            proposal: true,
-            good,
-            valid,
             prevotes: h.prevotes,
             precommits: h.precommits,
+            proposal: proposal_heard(good),
+            valid,
         },
     )
 }
@@ -281,11 +288,10 @@ fn hear_prevote(state: State, r: Round, seat: usize) -> State
     state.with_heard(
         r,
         Heard {
-            proposal: h.proposal,
-            good: h.good,
-            valid: h.valid,
             prevotes,
             precommits: h.precommits,
+            proposal: h.proposal,
+            valid: h.valid,
         },
     )
 }
@@ -299,11 +305,10 @@ fn hear_precommit(state: State, r: Round, seat: usize) -> State
     state.with_heard(
         r,
         Heard {
-            proposal: h.proposal,
-            good: h.good,
-            valid: h.valid,
             prevotes: h.prevotes,
             precommits,
+            proposal: h.proposal,
+            valid: h.valid,
         },
     )
 }
@@ -402,7 +407,7 @@ fn vote_22(state: State, table: &[u64]) -> u64
     let h = state.heard(r);
     let name = proposed(table, r);
     pick(
-        h.good & ((state.locked.next == 0) | (state.locked.name == name)),
+        (h.proposal == 2) & ((state.locked.next == 0) | (state.locked.name == name)),
         name,
         0,
     )
@@ -417,7 +422,7 @@ fn vote_28(state: State, table: &[u64]) -> u64
     let h = state.heard(r);
     let name = proposed(table, r);
     pick(
-        h.good & ((state.locked.next <= h.valid) | (state.locked.name == name)),
+        (h.proposal == 2) & ((state.locked.next <= h.valid) | (state.locked.name == name)),
         name,
         0,
     )

@@ -1,57 +1,96 @@
--- The rounds that rules 49 and 55 look for: which of them close, and which cannot call. Assumes nothing.
-use Prim.Native.Nat.{ℕ, _≤_}
-use mathlib.Core.Path.{_≡_}
+-- The rounds that rules 49 and 55 look for: which of them close, and which call. Assumes nothing.
+use Prim.Native.Nat.{ℕ, pred, _+_, _-_, _≤_, _<_}
+use mathlib.Core.Path.{_≡_, refl}
 use mathlib.Core.List.{List}
-use mathlib.Core.Bool.{true, false, _&&_, not}
+use mathlib.Core.Bool.{Bool, true, false, _&&_, not}
 use native.Mathlib.Omega.{arith}
-use borrow.Author.Tests.{eq-eqb, ne-eqb, le-ltb, eqb-true, not-true}
+use borrow.Author.Tests.{lt-ltb, le-ltb, le-leb, eqb-true}
 use lib.Dec.{eqb, ltb}
 use lib.ListN.{getD}
-use Rattle.words.specs.Choice.{past-highest-below, first-of}
+use Rattle.words.specs.Choice.{if_then_else_, lowest-below, past-highest-below, first-of}
 use Rattle.words.proofs.Choice.{highest-none, and-left, and-right, and-false}
 use Rattle.words.proofs.MarkLaws.{marked-zero}
-use Rattle.roll.specs.Weighing.{total-of}
+use Rattle.roll.specs.Weighing.{some, total-of}
 use Rattle.roll.proofs.Weighing.{power-none}
 use Rattle.rules.specs.declared.Heard.{Heard}
+use Rattle.rules.specs.declared.Rule.the-variants.{Nothing, Line49, Line55}
 use Rattle.rules.specs.declared.State.{State}
-use Rattle.rules.specs.State.{silence, silent}
-use Rattle.rules.specs.Log.{Desk, desk, good-sheets, message-power}
+use Rattle.rules.specs.State.{silence, silent, good}
+use Rattle.rules.specs.Log.{Desk, desk, proposal-place, good-sheets, precommit-power-for, message-power}
 use Rattle.rules.specs.Doing.{current}
-use Rattle.rules.specs.Rules.{closing-sheet, calls}
+use Rattle.rules.specs.Rules.{is-large, closing-sheet, closing-round, applies-49, calls, past-calling-round, applies-55}
+use Rattle.applies.specs.Later.{far-rule}
 
--- line 49: a round closes where its sheet's name is not 0
-module _ (d : Desk) (r : ℕ) {sheet : ℕ} (e : sheet ≡ closing-sheet d r) where
-  pub closes : (sheet ≡ 0 → ⊥) → not (eqb (closing-sheet d r) 0) ≡ true
-  closes some = rw (← e, ne-eqb sheet 0 some)
-
-  pub closes-not : sheet ≡ 0 → not (eqb (closing-sheet d r) 0) ≡ false
-  closes-not none = rw (← e, eq-eqb sheet 0 none)
-
--- line 55: no round below the current one calls
-pub none-calls : (d : Desk) (n : ℕ) → n ≤ current d → past-highest-below n (λ r. calls d r) ≡ 0
-unfolding calls
-none-calls d n h = highest-none n (λ r. calls d r) (λ r l. rw (le-ltb (current d) r (omega arith)))
+sheet-named : (b : Bool) (name : ℕ) → not (eqb (if b then name else 0) 0) ≡ (b && not (eqb name 0))
+sheet-named true name = refl
+sheet-named false name = refl
 
 -- what the log says of a round, cheap to ask
-module _ (s : State) (t : List ℕ) (r : ℕ) (h : Heard) (e : h ≡ getD (s .log) r silence) where
+module _ (s : State) (t : List ℕ) (r : ℕ) {h : Heard} (e : h ≡ getD (s .log) r silence) where
   -- without a good proposal it does not close
-  pub bad-closes-not : (h .proposal && h .good) ≡ false → not (eqb (closing-sheet (desk s t) r) 0) ≡ false
+  pub bad-closes-not : good h ≡ false → not (eqb (closing-sheet (desk s t) r) 0) ≡ false
   unfolding closing-sheet good-sheets first-of
   bad-closes-not fails = rw (← e, fails)
+
+  -- with one, it closes where the precommits for its name, which is not 0, are large
+  module _ {name : ℕ} {b : Bool} (is-good : good h ≡ true) (named : name ≡ getD t (proposal-place r) 0)
+      (judged : b ≡ is-large (desk s t) (precommit-power-for (desk s t) r name)) where
+    closing-so : closing-sheet (desk s t) r ≡ (if b then name else 0)
+    unfolding closing-sheet good-sheets first-of
+    closing-so = rw (← e, is-good, ← named, ← judged)
+
+    pub closes-so : not (eqb (closing-sheet (desk s t) r) 0) ≡ (b && not (eqb name 0))
+    closes-so = rw closing-so (sheet-named b name)
+
+    pub closes-with : (b && not (eqb name 0)) ≡ true → closing-sheet (desk s t) r ≡ name
+    closes-with holds = rw (closing-so, and-left b (not (eqb name 0)) holds)
 
   no-messages : silent h ≡ true → message-power (desk s t) r ≡ 0
   unfolding message-power
   no-messages quiet =
-      let a = not (h .proposal) in
+      let a = eqb (h .proposal) 0 in
       let b = eqb (h .prevotes) 0 in
       let c = eqb (h .precommits) 0 in
       let ab = and-left (a && b) c quiet in
-      let p : h .proposal ≡ false = not-true (h .proposal) (and-left a b ab) in
+      let p : h .proposal ≡ 0 = eqb-true (h .proposal) 0 (and-left a b ab) in
       let v : h .prevotes ≡ 0 = eqb-true (h .prevotes) 0 (and-right a b ab) in
       let w : h .precommits ≡ 0 = eqb-true (h .precommits) 0 (and-right (a && b) c quiet) in
       power-none (s .roll .powers) _ (s .roll .kiosks) (λ i l. rw (← e, p, v, w, marked-zero i))
 
-  -- and where nothing is heard of it, it does not call
+  -- where nothing is heard of it, it does not call
   pub silent-calls-not : silent h ≡ true → calls (desk s t) r ≡ false
   unfolding calls
   silent-calls-not quiet = and-false (ltb (current (desk s t)) r) _ (λ l. rw (no-messages quiet) (le-ltb (total-of (s .roll)) 0 (omega arith)))
+
+-- line 55: a round ahead calls where its messages have some power
+pub calls-so : (s : State) (t : List ℕ) (r : ℕ) {power total : ℕ} {b : Bool} → s .stand .round .0 < r → power ≡ message-power (desk s t) r
+    → total ≡ total-of (s .roll) → b ≡ some total power → calls (desk s t) r ≡ b
+unfolding calls
+calls-so s t r ahead weighs whole judged = rw (judged, weighs, whole, lt-ltb (s .stand .round .0) r ahead)
+
+-- and no other does
+pub none-calls : (d : Desk) (n : ℕ) → n ≤ current d + 1 → past-highest-below n (λ r. calls d r) ≡ 0
+unfolding calls
+none-calls d n h = highest-none n (λ r. calls d r) (λ r l. rw (le-ltb (current d) r (omega arith)))
+
+-- the rules of the whole log, by the rounds found
+module _ (s : State) (t : List ℕ) where
+  pub none-closes : (r : ℕ) → lowest-below r (λ k. not (eqb (closing-sheet (desk s t) k) 0)) ≡ r → r ≤ 16 → 16 ≤ r → closing-round (desk s t) ≡ 16
+  unfolding closing-round
+  none-closes r none l h = let g : r ≡ 16 = omega arith in rw g at none
+
+  pub far-49 : (r : ℕ) {name : ℕ} → closing-round (desk s t) ≡ r → r < 16 → closing-sheet (desk s t) r ≡ name
+      → far-rule (desk s t) ≡ Line49 (record { 0 = r }) name
+  unfolding far-rule applies-49
+  far-49 r found low sheet = rw (found, lt-ltb r 16 low, sheet)
+
+  pub far-55 : (past : ℕ) → closing-round (desk s t) ≡ 16 → past-calling-round (desk s t) ≡ past → 1 ≤ past
+      → far-rule (desk s t) ≡ Line55 (record { 0 = past - 1 })
+  unfolding far-rule applies-49 applies-55
+  far-55 past none found high =
+      let g : pred past ≡ past - 1 = omega arith in
+      rw (none, found, le-leb 1 past high, g)
+
+  pub far-none : closing-round (desk s t) ≡ 16 → past-calling-round (desk s t) ≡ 0 → far-rule (desk s t) ≡ Nothing
+  unfolding far-rule applies-49 applies-55
+  far-none none nor = rw (none, nor)

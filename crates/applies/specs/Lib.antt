@@ -1,2 +1,3 @@
 -- What this crate's contracts are written in, beside the rules' definitions.
 pub mod Later
+pub mod Seen

@@ -1,159 +1,208 @@
-// When each rule applies, and which is the first. What is cheap to ask is asked before anything is weighed.
-use crate::weigh::messages;
-use crate::weigh::precommits;
-use crate::weigh::precommits_for;
-use crate::weigh::prevotes;
-use crate::weigh::prevotes_for;
+// When each rule applies, and which is the first. What is cheap to ask is asked before anything is weighed, and the names of votes are
+// read only where the votes under any name are large.
 use roll::Power;
 use roll::Round;
+use roll::weigh::is_large_named;
+use roll::weigh::weigh;
+use roll::weigh::weigh_named;
 use rules::Heard;
 use rules::Rule;
+use rules::Stand;
 use rules::State;
+use rules::log::precommits_place;
+use rules::log::prevotes_place;
 use rules::log::proposed;
+use rules::tests::is_prevote;
+use rules::tests::is_propose;
+use rules::tests::is_rule;
+use rules::tests::is_running;
 use rules::tests::is_silent;
 use rules::tests::pick;
+use words::marks::either;
+use words::marks::with_mark;
 ghost use Prim.Native.Nat.{ℕ, _<_, _≤_};
 ghost use mathlib.Core.Path.{_≡_};
+ghost use mathlib.Core.Bool.{_&&_, _||_, not};
 ghost use mathlib.Core.List.{List};
-ghost use mathlib.Core.Bool.{_&&_};
+ghost use lib.Bits.{bitOr};
+ghost use lib.Dec.{eqb, leb};
+ghost use lib.ListN.{length};
 ghost use Rattle.words.specs.Choice.{if_then_else_};
+ghost use Rattle.words.specs.Marks.{mark};
 ghost use Rattle.roll.specs.Weighing.{total-of};
-ghost use Rattle.rules.specs.Log.{desk};
-ghost use Rattle.rules.specs.Rules.{applies-22, applies-28, applies-34, backed-sheet, applies-36, applies-44, applies-47, closing-sheet, closing-round, calls, past-calling-round, first-rule};
+ghost use Rattle.rules.specs.State.{is-propose, is-prevote, spoken, good};
+ghost use Rattle.rules.specs.Log.{desk, table-length};
+ghost use Rattle.rules.specs.Rules.{is-rule, backed-sheet, applies-44, applies-47, first-rule};
 ghost use Rattle.rules.specs.Ready.{Ready};
+ghost use Rattle.rules.specs.declared.Rule.the-variants.{Line47};
+ghost use Rattle.rules.specs.declared.State as states;
 ghost use Rattle.applies.specs.Later.{far-rule, later-rule};
+ghost use Rattle.applies.specs.Seen.{Seen};
 
 // Line 22: the round's proposal, with valid round -1.
-pub fn applies_22(state: State) -> bool
-    requires { ⌜ state .stand .round .0 < 16 ⌝ }
-    ensures { λ r. ⌜ ((t : List ℕ) → r ≡ applies-22 (desk state t)) ⌝ }
+fn applies_22(stand: Stand, h: Heard) -> bool
+    ensures { λ r. ⌜ r ≡ (is-propose (stand .step) && spoken h && eqb (h .valid) 0) ⌝ }
 {
-    let h = state.heard(state.stand.round);
-    state.at_propose() & h.proposal & (h.valid == 0)
+    let step = stand.step;
+    is_propose(step) & (h.proposal != 0) & (h.valid == 0)
 }
 
-// Line 28: the round's proposal, with a valid round before this one whose prevotes for it are large.
-pub fn applies_28(state: State, table: &[u64], total: Power) -> bool
-    requires { ⌜ Ready state (now table) × (total .0 ≡ total-of (state .roll)) ⌝ }
-    ensures { λ r. ⌜ r ≡ applies-28 (desk state (now (table .entry))) ⌝ }
+// Line 28, all but its weighing: the round's proposal, with a valid round before this one.
+fn proposed_before(stand: Stand, h: Heard) -> bool
+    ensures { λ r. ⌜ r ≡ (is-propose (stand .step) && spoken h && leb 1 (h .valid) && leb (h .valid) (stand .round .0)) ⌝ }
 {
-    let r = state.stand.round;
-    let h = state.heard(r);
-    if !state.at_propose() {
-        return false;
+    let step = stand.step;
+    is_propose(step) & (h.proposal != 0) & (1 <= h.valid) & (h.valid <= stand.round.0)
+}
+
+// Line 34, all but its weighing.
+fn awaits_prevotes(stand: Stand) -> bool
+    ensures { λ r. ⌜ r ≡ (is-prevote (stand .step) && not (stand .asked .prevote)) ⌝ }
+{
+    let step = stand.step;
+    is_prevote(step) & !stand.asked.prevote
+}
+
+// Whether a round's proposal is heard and good: no other can be backed, nor close a round.
+fn is_good(h: Heard) -> bool
+    ensures { λ b. ⌜ b ≡ good h ⌝ }
+{
+    h.proposal == 2
+}
+
+// Lines 34, 36 and 44, all but their weighing: whether the round's prevotes can make one of them apply.
+fn heeds_prevotes(stand: Stand, h: Heard) -> bool
+    ensures { λ r. ⌜ r ≡ (is-prevote (stand .step) || (not (is-propose (stand .step)) && not (stand .backed) && good h)) ⌝ }
+{
+    let step = stand.step;
+    is_prevote(step) | (!is_propose(step) & !stand.backed & is_good(h))
+}
+
+// Line 36: the sheet to back, 0 for none and where one is backed.
+fn sheet_to_back(
+    stand: Stand,
+    h: Heard,
+    powers: &[u16; 32],
+    kiosks: usize,
+    table: &[u64],
+    total: Power,
+) -> u64
+    requires { ⌜ (stand .round .0 < 16) × (kiosks ≤ 32) × (length (now table) ≡ table-length) ⌝ }
+    ensures { λ name. ⌜ ((s : states.State) → Seen s stand h (now (powers .entry)) kiosks (total .0) → name ≡ (if s .stand .backed then 0 else backed-sheet (desk s (now (table .entry))))) ⌝ }
+{
+    if stand.backed {
+        return 0;
     }
-    if !h.proposal {
-        return false;
+    if !is_good(h) {
+        return 0;
     }
-    if h.valid < 1 {
-        return false;
-    }
-    if r.0 < h.valid {
-        return false;
-    }
+    let r = stand.round;
     let name = proposed(table, r);
-    prevotes_for(state, table, Round(h.valid - 1), name).is_large(total)
-}
-
-// Line 34.
-pub fn applies_34(state: State, total: Power) -> bool
-    requires { ⌜ (state .stand .round .0 < 16) × (state .roll .kiosks ≤ 32) × (total .0 ≡ total-of (state .roll)) ⌝ }
-    ensures { λ r. ⌜ ((t : List ℕ) → r ≡ applies-34 (desk state t)) ⌝ }
-{
-    if !state.at_prevote() {
-        return false;
-    }
-    if state.stand.asked.prevote {
-        return false;
-    }
-    prevotes(state, state.stand.round).is_large(total)
-}
-
-// Line 36: the sheet that large prevotes back, 0 for none.
-pub fn backed_sheet(state: State, table: &[u64], total: Power) -> u64
-    requires { ⌜ Ready state (now table) × (total .0 ≡ total-of (state .roll)) ⌝ }
-    ensures { λ name. ⌜ name ≡ backed-sheet (desk state (now (table .entry))) ⌝ }
-{
-    let r = state.stand.round;
-    let h = state.heard(r);
-    if !h.proposal {
-        return 0;
-    }
-    if !h.good {
-        return 0;
-    }
-    let name = proposed(table, r);
-    pick(prevotes_for(state, table, r, name).is_large(total), name, 0)
-}
-
-// Line 36: the sheet to back where the rule applies, 0 where it does not.
-pub fn sheet_to_back(state: State, table: &[u64], total: Power) -> u64
-    requires { ⌜ Ready state (now table) × (total .0 ≡ total-of (state .roll)) ⌝ }
-    ensures { λ name. ⌜ name ≡ (if applies-36 (desk state (now (table .entry))) then backed-sheet (desk state (now (table .entry))) else 0) ⌝ }
-{
-    if state.at_propose() {
-        return 0;
-    }
-    if state.stand.backed {
-        return 0;
-    }
-    backed_sheet(state, table, total)
+    let power = weigh_named(powers, kiosks, h.prevotes, table, prevotes_place(r), name);
+    pick(power.is_large(total), name, 0)
 }
 
 // Line 44.
-pub fn applies_44(state: State, table: &[u64], total: Power) -> bool
-    requires { ⌜ Ready state (now table) × (total .0 ≡ total-of (state .roll)) ⌝ }
-    ensures { λ r. ⌜ r ≡ applies-44 (desk state (now (table .entry))) ⌝ }
+fn applies_44(
+    stand: Stand,
+    h: Heard,
+    powers: &[u16; 32],
+    kiosks: usize,
+    table: &[u64],
+    total: Power,
+) -> bool
+    requires { ⌜ (stand .round .0 < 16) × (kiosks ≤ 32) × (length (now table) ≡ table-length) ⌝ }
+    ensures { λ r. ⌜ ((s : states.State) → Seen s stand h (now (powers .entry)) kiosks (total .0) → r ≡ applies-44 (desk s (now (table .entry)))) ⌝ }
 {
-    if !state.at_prevote() {
+    let step = stand.step;
+    if !is_prevote(step) {
         return false;
     }
-    prevotes_for(state, table, state.stand.round, 0).is_large(total)
+    let power = weigh_named(
+        powers,
+        kiosks,
+        h.prevotes,
+        table,
+        prevotes_place(stand.round),
+        0,
+    );
+    power.is_large(total)
+}
+
+// The rules that weigh the prevotes of the current round: 34, 36 and 44.
+fn prevote_rule(
+    stand: Stand,
+    h: Heard,
+    powers: &[u16; 32],
+    kiosks: usize,
+    table: &[u64],
+    total: Power,
+) -> Rule
+    requires { ⌜ (stand .round .0 < 16) × (kiosks ≤ 32) × (length (now table) ≡ table-length) ⌝ }
+    ensures { λ r. ⌜ ((s : states.State) → Seen s stand h (now (powers .entry)) kiosks (total .0) → later-rule (desk s (now (table .entry))) ≡ (if is-rule r then r else if applies-47 (desk s (now (table .entry))) then Line47 else far-rule (desk s (now (table .entry))))) ⌝ }
+{
+    if !heeds_prevotes(stand, h) {
+        return Rule::Nothing;
+    }
+    if !weigh(powers, kiosks, h.prevotes).is_large(total) {
+        return Rule::Nothing;
+    }
+    if awaits_prevotes(stand) {
+        return Rule::Line34;
+    }
+    let name = sheet_to_back(stand, h, powers, kiosks, table, total);
+    if name != 0 {
+        return Rule::Line36(name);
+    }
+    if applies_44(stand, h, powers, kiosks, table, total) {
+        return Rule::Line44;
+    }
+    Rule::Nothing
 }
 
 // Line 47.
-pub fn applies_47(state: State, total: Power) -> bool
-    requires { ⌜ (state .stand .round .0 < 16) × (state .roll .kiosks ≤ 32) × (total .0 ≡ total-of (state .roll)) ⌝ }
-    ensures { λ r. ⌜ ((t : List ℕ) → r ≡ applies-47 (desk state t)) ⌝ }
+fn applies_47(stand: Stand, h: Heard, powers: &[u16; 32], kiosks: usize, total: Power) -> bool
+    requires { ⌜ kiosks ≤ 32 ⌝ }
+    ensures { λ r. ⌜ ((s : states.State) (t : List ℕ) → Seen s stand h (now (powers .entry)) kiosks (total .0) → r ≡ applies-47 (desk s t)) ⌝ }
 {
-    if state.stand.asked.precommit {
+    if stand.asked.precommit {
         return false;
     }
-    precommits(state, state.stand.round).is_large(total)
+    weigh(powers, kiosks, h.precommits).is_large(total)
 }
 
-// Whether a round's proposal is heard and good: no other can close a round.
-fn is_good(h: Heard) -> bool
-    ensures { λ b. ⌜ b ≡ (h .proposal && h .good) ⌝ }
+// The senders of any message of a round, each marked once: those of its votes, and of its proposal the seat whose turn it is.
+fn senders(h: Heard, turn: usize) -> u32
+    requires { ⌜ turn < 32 ⌝ }
+    ensures { λ m. ⌜ m ≡ (if spoken h then mark (bitOr (h .prevotes) (h .precommits)) turn else bitOr (h .prevotes) (h .precommits)) ⌝ }
 {
-    h.proposal & h.good
+    let votes = either(h.prevotes, h.precommits);
+    if h.proposal != 0 {
+        return with_mark(votes, turn);
+    }
+    votes
 }
 
-// Lines 49 and 50: the sheet that can be settled in a round, 0 for none.
-pub fn closing_sheet(state: State, table: &[u64], r: Round, total: Power) -> u64
-    requires { ⌜ (r .0 < 16) × Ready state (now table) × (total .0 ≡ total-of (state .roll)) ⌝ }
-    ensures { λ name. ⌜ name ≡ closing-sheet (desk state (now (table .entry))) (r .0) ⌝ }
-{
-    let h = state.heard(r);
-    if !h.proposal {
-        return 0;
-    }
-    if !h.good {
-        return 0;
-    }
-    let name = proposed(table, r);
-    pick(
-        precommits_for(state, table, r, name).is_large(total),
-        name,
-        0,
-    )
-}
-
-// Line 49: the lowest round that can be settled, 16 for none. A round without a good proposal is passed before anything is weighed.
-pub fn closing_round(state: State, table: &[u64], total: Power) -> u8
+// The rules from 34 on: those of the current round, and then 49 and 55, that look at the whole log. Of 49's rounds, from the lowest on, one
+// without a good proposal is passed before anything is weighed; of 55's, from the highest down to the next, a silent one.
+fn later_rule(state: State, table: &[u64], total: Power) -> Rule
     requires { ⌜ Ready state (now table) × (total .0 ≡ total-of (state .roll)) ⌝ }
-    ensures { λ r. ⌜ r ≡ closing-round (desk state (now (table .entry))) ⌝ }
+    ensures { λ r. ⌜ r ≡ later-rule (desk state (now (table .entry))) ⌝ }
 {
+    let stand = state.stand;
+    let now = stand.round;
+    let here = now.0 as usize;
+    let h = state.log[here];
+    let roll = state.roll;
+    let powers = roll.powers;
+    let kiosks = roll.kiosks;
+    let rule = prevote_rule(stand, h, &powers, kiosks, table, total);
+    if is_rule(rule) {
+        return rule;
+    }
+    if applies_47(stand, h, &powers, kiosks, total) {
+        return Rule::Line47;
+    }
     let mut r: u8 = 0;
     while r < 16 {
         let at = r as usize;
@@ -161,85 +210,37 @@ pub fn closing_round(state: State, table: &[u64], total: Power) -> u8
             r += 1;
             continue;
         }
-        if closing_sheet(state, table, Round(r), total) != 0 {
-            return r;
+        let marks = state.log[at].precommits;
+        let name = proposed(table, Round(r));
+        let closes = is_large_named(
+            &powers,
+            kiosks,
+            marks,
+            table,
+            precommits_place(Round(r)),
+            name,
+            total,
+        );
+        if closes & (name != 0) {
+            return Rule::Line49(Round(r), name);
         }
         r += 1;
     }
-    r
-}
-
-// Line 55: messages of some power call to a round ahead.
-pub fn calls(state: State, r: Round, total: Power) -> bool
-    requires { ⌜ (r .0 < 16) × (1 ≤ state .roll .kiosks) × (state .roll .kiosks ≤ 32) × (total .0 ≡ total-of (state .roll)) ⌝ }
-    ensures { λ b. ⌜ ((t : List ℕ) → b ≡ calls (desk state t) (r .0)) ⌝ }
-{
-    let now = state.stand.round;
-    if r.0 <= now.0 {
-        return false;
-    }
-    messages(state, r).is_some(total)
-}
-
-// Line 55: one more than the highest round that calls, 0 for none. Rounds below the current one are not looked at, silent ones not weighed.
-pub fn past_calling_round(state: State, total: Power) -> u8
-    requires { ⌜ (1 ≤ state .roll .kiosks) × (state .roll .kiosks ≤ 32) × (total .0 ≡ total-of (state .roll)) ⌝ }
-    ensures { λ p. ⌜ ((t : List ℕ) → p ≡ past-calling-round (desk state t)) ⌝ }
-{
-    let now = state.stand.round;
     let mut past: u8 = 16;
-    while now.0 < past {
+    while now.0 + 1 < past {
         let at = (past - 1) as usize;
         if is_silent(state.log[at]) {
             past -= 1;
             continue;
         }
-        if calls(state, Round(past - 1), total) {
-            return past;
+        let turn = roll.proposer(Round(past - 1));
+        let marks = senders(state.log[at], turn);
+        if weigh(&powers, kiosks, marks).is_some(total) {
+            return Rule::Line55(Round(past - 1));
         }
         past -= 1;
     }
-    0
-}
-
-// The rules that look at the whole log: 49, and then 55.
-pub fn far_rule(state: State, table: &[u64], total: Power) -> Rule
-    requires { ⌜ Ready state (now table) × (total .0 ≡ total-of (state .roll)) ⌝ }
-    ensures { λ r. ⌜ r ≡ far-rule (desk state (now (table .entry))) ⌝ }
-{
-    let closing = closing_round(state, table, total);
-    if closing < 16 {
-        return Rule::Line49(
-            Round(closing),
-            closing_sheet(state, table, Round(closing), total),
-        );
-    }
-    let past = past_calling_round(state, total);
-    if 0 < past {
-        return Rule::Line55(Round(past - 1));
-    }
     Rule::Nothing
-}
-
-// The rules that look at the current round: 34 to 47, and then those of the whole log.
-pub fn later_rule(state: State, table: &[u64], total: Power) -> Rule
-    requires { ⌜ Ready state (now table) × (total .0 ≡ total-of (state .roll)) ⌝ }
-    ensures { λ r. ⌜ r ≡ later-rule (desk state (now (table .entry))) ⌝ }
-{
-    if applies_34(state, total) {
-        return Rule::Line34;
-    }
-    let name = sheet_to_back(state, table, total);
-    if name != 0 {
-        return Rule::Line36(name);
-    }
-    if applies_44(state, table, total) {
-        return Rule::Line44;
-    }
-    if applies_47(state, total) {
-        return Rule::Line47;
-    }
-    far_rule(state, table, total)
 }
 
 // The first rule that applies.
@@ -247,14 +248,35 @@ pub fn first_rule(state: State, table: &[u64], total: Power) -> Rule
     requires { ⌜ Ready state (now table) × (total .0 ≡ total-of (state .roll)) ⌝ }
     ensures { λ r. ⌜ r ≡ first-rule (desk state (now (table .entry))) ⌝ }
 {
-    if !state.runs() {
+    let phase = state.phase;
+    if !is_running(phase) {
         return Rule::Nothing;
     }
-    if applies_22(state) {
+    let stand = state.stand;
+    let now = stand.round;
+    let here = now.0 as usize;
+    let h = state.log[here];
+    if applies_22(stand, h) {
         return Rule::Line22;
     }
-    if applies_28(state, table, total) {
-        return Rule::Line28;
+    if proposed_before(stand, h) {
+        let powers = state.roll.powers;
+        let kiosks = state.roll.kiosks;
+        let valid = h.valid - 1;
+        let at = valid as usize;
+        let marks = state.log[at].prevotes;
+        let name = proposed(table, now);
+        if is_large_named(
+            &powers,
+            kiosks,
+            marks,
+            table,
+            prevotes_place(Round(valid)),
+            name,
+            total,
+        ) {
+            return Rule::Line28;
+        }
     }
     later_rule(state, table, total)
 }

@@ -5,7 +5,8 @@ use mathlib.Core.List.{List, [], _∷_}
 use lib.ListN.{getD}
 use lib.Dec.{ltb, eqb}
 use Rattle.words.specs.Choice.{if_then_else_}
-use Rattle.flat.specs.declared.FlatHeard.{FlatHeard}
+use Rattle.rules.specs.declared.Heard.{Heard}
+use Rattle.rules.specs.State.{silence}
 use Rattle.flat.specs.declared.FlatKiosk.{FlatKiosk}
 use Rattle.flat.specs.declared.FlatInput.{FlatInput}
 use Rattle.flat.specs.declared.FlatOutput.{FlatOutput}
@@ -32,23 +33,19 @@ plain-number f field =
     else if eqb field 17 then f .«valid_next»
     else 0
 
-unfoldable pub heard-number : FlatHeard → ℕ → ℕ
+unfoldable pub heard-number : Heard → ℕ → ℕ
 heard-number h field =
     if eqb field 18 then h .prevotes
     else if eqb field 19 then h .precommits
     else if eqb field 20 then h .proposal
-    else if eqb field 21 then h .good
-    else if eqb field 22 then h .valid
+    else if eqb field 21 then h .valid
     else 0
-
-abbrev pub no-heard : FlatHeard
-no-heard = record { prevotes = 0; precommits = 0; proposal = 0; good = 0; valid = 0 }
 
 unfoldable pub kiosk-number : FlatKiosk → ℕ → ℕ → ℕ
 kiosk-number f field index =
     if eqb field 7 then (if ltb index 32 then getD (f .powers) index 0 else 0)
     else if ltb field 18 then plain-number f field
-    else if ltb index 16 then heard-number (getD (f .log) index no-heard) field
+    else if ltb index 16 then heard-number (getD (f .log) index silence) field
     else 0
 
 unfoldable pub input-number : FlatInput → ℕ → ℕ

@@ -1,9 +1,9 @@
 // Numbers by field, for a caller to see that its compiler lays the structs as this library does.
-use flat::FlatHeard;
 use flat::FlatInput;
 use flat::FlatKiosk;
 use flat::FlatOutput;
 use flat::FlatReply;
+use rules::Heard;
 ghost use Prim.Native.Nat.{_≤_};
 ghost use mathlib.Core.Path.{_≡_};
 ghost use Rattle.board.specs.Fields.{plain-number, heard-number, kiosk-number, input-number, output-from, layout-from, layout};
@@ -35,15 +35,14 @@ fn plain_number(f: FlatKiosk, field: usize) -> u64
 }
 
 // A field of a round of the log.
-fn heard_number(h: FlatHeard, field: usize) -> u64
+fn heard_number(h: Heard, field: usize) -> u64
     ensures { λ n. ⌜ n ≡ heard-number h field ⌝ }
 {
     match field {
         18 => h.prevotes as u64,
         19 => h.precommits as u64,
         20 => h.proposal as u64,
-        21 => h.good as u64,
-        22 => h.valid as u64,
+        21 => h.valid as u64,
         _ => 0,
     }
 }

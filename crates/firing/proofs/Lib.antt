@@ -3,4 +3,5 @@ pub mod Keeping
 pub mod Handover
 pub mod Turns
 pub mod Begins
+pub mod Votes
 pub mod Fires

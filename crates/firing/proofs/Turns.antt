@@ -78,7 +78,7 @@ module _ (s : State) (t : List ℕ) (os : List Output) (a : Act) (u : Desk) (e :
   pub act-state : a .state ≡ u .state
   act-state = ap (λ (d : Desk). d .state) e
 
-  pub act-table : table-after a t ≡ u .table
+  act-table : table-after a t ≡ u .table
   act-table = ap (λ (d : Desk). d .table) e
 
   pub act-sent : (if a .sends then os ++ (a .output ∷ []) else os) ≡ u .sent

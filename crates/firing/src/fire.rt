@@ -6,21 +6,24 @@ use acts::doing::act;
 use acts::doing::take_in;
 use applies::when::first_rule;
 use roll::Power;
+use rules::Heard;
 use rules::Input;
 use rules::Sent;
 use rules::State;
+use rules::log::precommits_place;
+use rules::log::prevotes_place;
 use rules::tests::is_rule;
+use words::marks::with_mark;
 ghost use Prim.Native.Nat.{_+_, _<_, _≤_};
 ghost use mathlib.Core.Path.{_≡_};
-ghost use mathlib.Core.Bool.{true, not};
+ghost use mathlib.Core.Bool.{true};
 ghost use lib.ListN.{length, getD, set};
 ghost use Rattle.words.specs.Choice.{if_then_else_};
 ghost use Rattle.roll.specs.Weighing.{total-of};
-ghost use Rattle.rules.specs.Log.{desk};
-ghost use Rattle.rules.specs.Rules.{first-rule, is-rule};
 ghost use Rattle.rules.specs.Work.{fire-all, work};
 ghost use Rattle.rules.specs.Ready.{Ready, Readable, midway, so-far};
 ghost use Rattle.firing.specs.Trails.{no-trail, undone, Firing, Leaves};
+ghost use Rattle.firing.specs.Votes.{is-vote, with-vote, vote-place};
 
 impl Trail {
     pub fn none() -> Trail
@@ -92,14 +95,6 @@ fn read(table: &[u64], place: usize) -> u64
     if place < table.len() { table[place] } else { 0 }
 }
 
-// Whether no rule applies.
-pub fn is_quiet(state: State, table: &[u64], total: Power) -> bool
-    requires { ⌜ Ready state (now table) × (total .0 ≡ total-of (state .roll)) ⌝ }
-    ensures { λ r. ⌜ r ≡ not (is-rule (first-rule (desk state (now (table .entry))))) ⌝ }
-{
-    !is_rule(first_rule(state, table, total))
-}
-
 // The first rule that applies fires, and the list is begun again, with one firing less left.
 pub fn fire(
     state: State,
@@ -135,6 +130,62 @@ pub fn fire(
     )
 }
 
+// Where a vote stands in the table.
+fn vote_place(i: Input) -> usize
+    requires { ⌜ (i .round .0 < 16) × (i .sender < 32) ⌝ }
+    ensures { λ p. ⌜ p ≡ vote-place i ⌝ }
+{
+    let seat = i.sender as usize;
+    if i.kind == 3 {
+        return prevotes_place(i.round) + seat;
+    }
+    precommits_place(i.round) + seat
+}
+
+// What is heard of a round, with a vote more.
+fn with_vote(h: Heard, i: Input) -> Heard
+    requires { ⌜ i .sender < 32 ⌝ }
+    ensures { λ x. ⌜ x ≡ with-vote i h ⌝ }
+{
+    let seat = i.sender as usize;
+    if i.kind == 3 {
+        return Heard {
+            prevotes: with_mark(h.prevotes, seat),
+            precommits: h.precommits,
+            proposal: h.proposal,
+            valid: h.valid,
+        };
+    }
+    Heard {
+        prevotes: h.prevotes,
+        precommits: with_mark(h.precommits, seat),
+        proposal: h.proposal,
+        valid: h.valid,
+    }
+}
+
+// A vote's whole work. Most inputs are votes after which no rule applies: those are done without firing, and the state is marked in place.
+fn work_vote(mut state: State, i: Input, table: &mut [u64], total: Power) -> Worked
+    requires { ⌜ Ready state (now table) × Readable i × (length (work i state (now table) .sent) ≤ 6) × (total .0 ≡ total-of (state .roll)) × (is-vote i ≡ true) ⌝ }
+    ensures { λ w. ⌜ Leaves (work i state (now (table .entry))) (now (table .entry)) w (now (table .exit)) ⌝ }
+{
+    let at = i.round.0 as usize;
+    let h = state.log[at];
+    state.log[at] = with_vote(h, i);
+    let place = vote_place(i);
+    let kept = Trail::none().keep(table, true, place);
+    write(table, place, i.name);
+    let sent = Sent::none();
+    if !is_rule(first_rule(state, table, total)) {
+        return Worked {
+            state,
+            sent,
+            trail: kept,
+        };
+    }
+    fire(state, sent, kept, table, total, i.offer, 136)
+}
+
 // An accepted input's whole work.
 pub fn work(state: State, i: Input, table: &mut [u64]) -> Worked
     requires { ⌜ Ready state (now table) × Readable i × (length (work i state (now table) .sent) ≤ 6) ⌝ }
@@ -142,6 +193,9 @@ pub fn work(state: State, i: Input, table: &mut [u64]) -> Worked
 {
     let roll = state.roll;
     let total = roll.total();
+    if (i.kind == 3) | (i.kind == 4) {
+        return work_vote(state, i, table, total);
+    }
     let a = take_in(state, i);
     let s = a.state;
     let kept = Trail::none().keep(table, a.writes, a.place);

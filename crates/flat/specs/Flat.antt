@@ -1,7 +1,7 @@
 -- The flat twins of a kiosk's state, inputs and replies: what each number means, and which numbers the state's types can hold.
 -- Assumes nothing.
 use Prim.Native.Nat.{ℕ}
-use mathlib.Core.List.{List, [], _∷_, map}
+use mathlib.Core.List.{map}
 use mathlib.Core.Bool.{Bool, true, false, _&&_, _||_}
 use lib.ListN.{replicate}
 use lib.Dec.{leb, eqb}
@@ -12,14 +12,12 @@ use Rattle.rules.specs.declared.Phase.the-variants.{Fresh, Running, Settled}
 use Rattle.rules.specs.declared.Step.{Step}
 use Rattle.rules.specs.declared.Step.the-variants.{Propose, Prevote, Precommit}
 use Rattle.rules.specs.declared.Stand.{Stand}
-use Rattle.rules.specs.declared.Heard.{Heard}
 use Rattle.rules.specs.declared.Input.{Input}
 use Rattle.rules.specs.declared.Output.{Output}
 use Rattle.rules.specs.State.{settled-round}
 use Rattle.kiosk.specs.declared.Kiosk.{Kiosk}
 use Rattle.kiosk.specs.declared.Reply.{Reply}
 use Rattle.answers.specs.Answers.{number-of, place-of}
-use Rattle.flat.specs.declared.FlatHeard.{FlatHeard}
 use Rattle.flat.specs.declared.FlatKiosk.{FlatKiosk}
 use Rattle.flat.specs.declared.FlatInput.{FlatInput}
 use Rattle.flat.specs.declared.FlatOutput.{FlatOutput}
@@ -29,21 +27,6 @@ use Rattle.flat.specs.declared.FlatReply.{FlatReply}
 abbrev pub flag : Bool → ℕ
 flag true = 1
 flag false = 0
-
--- ## What is heard of a round
-
-abbrev pub heard-of : FlatHeard → Heard
-heard-of h = record { proposal = eqb (h .proposal) 1; good = eqb (h .good) 1; valid = h .valid; prevotes = h .prevotes; precommits = h .precommits }
-
-abbrev pub flat-heard : Heard → FlatHeard
-flat-heard h = record { prevotes = h .prevotes; precommits = h .precommits; proposal = flag (h .proposal); good = flag (h .good); valid = h .valid }
-
-abbrev pub heard-holds : FlatHeard → Bool
-heard-holds h = leb (h .proposal) 1 && leb (h .good) 1
-
-unfoldable pub all-hold : List FlatHeard → Bool
-all-hold [] = true
-all-hold (h ∷ hs) = heard-holds h && all-hold hs
 
 -- ## The state
 
@@ -74,8 +57,7 @@ holds f =
     leb (f .«asked_propose») 1 &&
     leb (f .«asked_prevote») 1 &&
     leb (f .«asked_precommit») 1 &&
-    leb (f .backed) 1 &&
-    all-hold (f .log)
+    leb (f .backed) 1
 
 abbrev pub stand-of : FlatKiosk → Stand
 stand-of f = record {
@@ -96,7 +78,7 @@ kiosk-of f = record {
     stand = stand-of f;
     locked = record { next = f .«locked_next»; name = f .«locked_name» };
     valid = record { next = f .«valid_next»; name = f .«valid_name» };
-    log = map heard-of (f .log);
+    log = f .log;
   };
   used = f .used;
   last = f .last;
@@ -122,7 +104,7 @@ flat-kiosk k = record {
   backed = flag (k .state .stand .backed);
   «locked_next» = k .state .locked .next;
   «valid_next» = k .state .valid .next;
-  log = map flat-heard (k .state .log);
+  log = k .state .log;
 }
 
 -- ## Inputs, outputs, replies

@@ -1,16 +1,9 @@
-// Flat twins of the structs that cross to C: plain numbers, laid out as include/slipcoacher.h has them.
-pub mod log;
+// Flat twins of the structs that cross to C: plain numbers, laid out as include/slipcoacher.h has them. The log is plain numbers
+// already, and crosses as it is.
 pub mod sent;
 pub mod state;
 
-#[repr(C)]
-pub struct FlatHeard {
-    pub prevotes: u32,
-    pub precommits: u32,
-    pub proposal: u8,
-    pub good: u8,
-    pub valid: u8,
-}
+use rules::Heard;
 
 #[repr(C)]
 pub struct FlatKiosk {
@@ -32,7 +25,7 @@ pub struct FlatKiosk {
     pub backed: u8,
     pub locked_next: u8,
     pub valid_next: u8,
-    pub log: [FlatHeard; 16],
+    pub log: [Heard; 16],
 }
 
 #[repr(C)]

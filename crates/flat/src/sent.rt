@@ -3,7 +3,9 @@ use crate::FlatInput;
 use crate::FlatKiosk;
 use crate::FlatOutput;
 use crate::FlatReply;
-use crate::state::flat_kiosk;
+use crate::state::flag;
+use crate::state::phase_number;
+use crate::state::step_number;
 use answers::number_of;
 use answers::place_of;
 use kiosk::Reply;
@@ -11,6 +13,7 @@ use roll::Height;
 use roll::Round;
 use rules::Input;
 use rules::Output;
+use rules::tests::settled_round;
 ghost use mathlib.Core.Path.{_≡_};
 ghost use mathlib.Core.List.{map};
 ghost use Rattle.flat.specs.Flat.{input-of, flat-output, flat-reply, impossible};
@@ -62,16 +65,41 @@ pub fn flat_reply(r: Reply) -> FlatReply
     ensures { λ x. ⌜ x ≡ flat-reply r ⌝ }
 {
     let answer = r.answer;
-    let sent = r.sent;
-    let k = r.kiosk;
-    let list = sent.list;
-    let flat = flat_list(list);
+    let list = r.sent.list;
+    let state = r.kiosk.state;
+    let phase = state.phase;
+    let stand = state.stand;
+    let step = stand.step;
+    let asked = stand.asked;
+    let powers = state.roll.powers;
+    let log = state.log;
+    let sent = flat_list(list);
     FlatReply {
         number: number_of(answer),
         place: place_of(answer),
-        count: sent.count,
-        sent: flat,
-        kiosk: flat_kiosk(k),
+        count: r.sent.count,
+        sent,
+        kiosk: FlatKiosk {
+            kiosks: state.roll.kiosks,
+            own: state.roll.own,
+            used: r.kiosk.used,
+            last: r.kiosk.last,
+            locked_name: state.locked.name,
+            valid_name: state.valid.name,
+            height: state.roll.height.0,
+            powers,
+            phase: phase_number(phase),
+            settled: settled_round(phase),
+            round: stand.round.0,
+            step: step_number(step),
+            asked_propose: flag(asked.propose),
+            asked_prevote: flag(asked.prevote),
+            asked_precommit: flag(asked.precommit),
+            backed: flag(stand.backed),
+            locked_next: state.locked.next,
+            valid_next: state.valid.next,
+            log,
+        },
     }
 }
 

@@ -20,7 +20,7 @@ use Rattle.rules.specs.declared.Rule.the-variants.{Nothing}
 use Rattle.rules.specs.declared.State.{State}
 use Rattle.rules.specs.declared.Stand.{Stand}
 use Rattle.rules.specs.declared.Output.{Output}
-use Rattle.rules.specs.State.{most-rounds, silence, silent, held, settled-round, is-fresh, is-propose, is-prevote, entered, with-phase, with-stand, with-locked, with-valid, with-backed}
+use Rattle.rules.specs.State.{most-rounds, silence, silent, spoken, held, settled-round, is-fresh, is-propose, is-prevote, entered, with-phase, with-stand, with-locked, with-valid, with-backed}
 use Rattle.rules.specs.Log.{the-log, Desk, desk, with-state, message-power, table-length, proposal-place, heard, proposed, logged, hear-proposal, hear-prevote, hear-precommit}
 use Rattle.rules.specs.Doing.{current, own, step, prevote, precommit, propose, ask-propose, ask-prevote, ask-precommit, sheet-to-propose, start-round}
 use Rattle.rules.specs.Rules.{the-rules, first-rule, is-rule, fire, fire-36, fire-49, vote-22, vote-28, backed-sheet, closing-sheet, closing-round, calls, is-some, past-calling-round, applies-36, applies-49, applies-55}
@@ -37,7 +37,8 @@ use Rattle.kiosk.proofs.Accepted.{Fits, fits, Passes, passes, Fields, f
 pub record Heard-fits (n r : ℕ) (h : Heard) (name : ℕ) : Type 0 where
   pub prevotes : h .prevotes < 2 ^ n
   pub precommits : h .precommits < 2 ^ n
-  pub sheet : h .proposal ≡ true → (name ≡ 0 → ⊥) × (h .valid ≤ r)
+  pub verdict : h .proposal ≤ 2
+  pub sheet : spoken h ≡ true → (name ≡ 0 → ⊥) × (h .valid ≤ r)
 
 or-true : (a b : Bool) → (a || b) ≡ true → not a ≡ true → b ≡ true
 or-true true b e f = absurd (false≢true f)
@@ -50,23 +51,26 @@ round-told d r e =
     let n = d .state .roll .kiosks in
     let a = ltb (h .prevotes) (2 ^ n) in
     let b = ltb (h .precommits) (2 ^ n) in
+    let c = leb (h .proposal) 2 in
     let s = not (eqb (proposed d r) 0) in
     let v = leb (h .valid) r in
-    let ab = and-left (a && b) (not (h .proposal) || (s && v)) e in
-    let c = and-right (a && b) (not (h .proposal) || (s && v)) e in
+    let abc = and-left (a && b && c) (not (spoken h) || (s && v)) e in
+    let ab = and-left (a && b) c abc in
+    let sheets = and-right (a && b && c) (not (spoken h) || (s && v)) e in
     record {
       prevotes = ltb-true (h .prevotes) (2 ^ n) (and-left a b ab);
       precommits = ltb-true (h .precommits) (2 ^ n) (and-right a b ab);
+      verdict = leb-true (h .proposal) 2 (and-right (a && b) c abc);
       sheet = λ p.
-          let sv : (s && v) ≡ true = or-true (not (h .proposal)) (s && v) c (rw p) in
+          let sv : (s && v) ≡ true = or-true (not (spoken h)) (s && v) sheets (rw p) in
           (eqb-false (proposed d r) 0 (not-true (eqb (proposed d r) 0) (and-left s v sv)), leb-true (h .valid) r (and-right s v sv));
     }
 
 tell : (n r : ℕ) (h : Heard) (name : ℕ) → Heard-fits n r h name →
-    (ltb (h .prevotes) (2 ^ n) && ltb (h .precommits) (2 ^ n) && (not (h .proposal) || (not (eqb name 0) && leb (h .valid) r))) ≡ true
+    (ltb (h .prevotes) (2 ^ n) && ltb (h .precommits) (2 ^ n) && leb (h .proposal) 2 && (not (spoken h) || (not (eqb name 0) && leb (h .valid) r))) ≡ true
 tell n r h name f =
-    rw (lt-ltb (h .prevotes) (2 ^ n) (f .prevotes), lt-ltb (h .precommits) (2 ^ n) (f .precommits))
-    (by-cases (h .proposal)
+    rw (lt-ltb (h .prevotes) (2 ^ n) (f .prevotes), lt-ltb (h .precommits) (2 ^ n) (f .precommits), le-leb (h .proposal) 2 (f .verdict))
+    (by-cases (spoken h)
     (λ p. rw (p, ne-eqb name 0 (f .sheet p .0), le-leb (h .valid) r (f .sheet p .1)))
     (λ p. rw p))
 
@@ -130,6 +134,11 @@ vote-kept d s r h place name apart new = record {
   valid = s .valid;
 }
 
+-- with either verdict a proposal is heard under a number that there is
+verdict-low : (good : Bool) → (if good then 2 else 1) ≤ 2
+verdict-low true = omega arith
+verdict-low false = omega arith
+
 -- a proposal in the log, with a name and a valid round before its own
 proposal-kept : (d : Desk) → Sound d → (r : ℕ) (good : Bool) (valid name : ℕ) → r < d .rounds → valid ≤ r → (name ≡ 0 → ⊥) → Sound (hear-proposal d r good valid name)
 unfolding hear-proposal
@@ -152,8 +161,8 @@ proposal-kept d s r good valid name l v some =
           by-cases (eqb q r)
           (λ e. let g : q ≡ r = eqb-true q r e in
           rw g (set-read (λ (x : Heard). Heard-fits n r x (getD (set t (proposal-place r) name) (proposal-place r) 0)) (d .state .log) r r _ silence
-          (λ z. record { prevotes = old .prevotes; precommits = old .precommits; sheet = λ p. (rw same some, v) })
-          (record { prevotes = old .prevotes; precommits = old .precommits; sheet = λ p. (rw same some, old .sheet p .1) })))
+          (λ z. record { prevotes = old .prevotes; precommits = old .precommits; verdict = verdict-low good; sheet = λ p. (rw same some, v) })
+          (record { prevotes = old .prevotes; precommits = old .precommits; verdict = old .verdict; sheet = λ p. (rw same some, old .sheet p .1) })))
           (λ e. let g : q ≡ r → ⊥ = eqb-false q r e in
           set-read (λ (x : Heard). Heard-fits n q x (getD (set t (proposal-place r) name) (proposal-place q) 0)) (d .state .log) r q _ silence
           (λ z. absurd (g z))
@@ -167,14 +176,14 @@ unfolding hear-prevote
 prevote-heard d s r i name l m =
     let old = s .all-heard r l in
     vote-kept d s r _ _ name (λ q e. omega (arith, e, m, s .few))
-    (record { prevotes = mark-below (d .state .roll .kiosks) i (heard d r .prevotes) m (old .prevotes); precommits = old .precommits; sheet = old .sheet })
+    (record { prevotes = mark-below (d .state .roll .kiosks) i (heard d r .prevotes) m (old .prevotes); precommits = old .precommits; verdict = old .verdict; sheet = old .sheet })
 
 precommit-heard : (d : Desk) → Sound d → (r i name : ℕ) → r < d .rounds → i < d .state .roll .kiosks → Sound (hear-precommit d r i name)
 unfolding hear-precommit
 precommit-heard d s r i name l m =
     let old = s .all-heard r l in
     vote-kept d s r _ _ name (λ q e. omega (arith, e, m, s .few))
-    (record { prevotes = old .prevotes; precommits = mark-below (d .state .roll .kiosks) i (heard d r .precommits) m (old .precommits); sheet = old .sheet })
+    (record { prevotes = old .prevotes; precommits = mark-below (d .state .roll .kiosks) i (heard d r .precommits) m (old .precommits); verdict = old .verdict; sheet = old .sheet })
 
 -- ---- what a kiosk does on its own
 

@@ -160,6 +160,10 @@ cases =
     state-gives (with-valid (held 1 50)) 1 ∷
     state-gives (with-valid (held 0 0)) 1 ∷
     state-gives (with-valid (no-round 50)) 1 ∷
+    -- 1: a number that says nothing of a proposal, and the two that say its verdict
+    calls (with-state (hearing 5 (record { prevotes = 0; precommits = 0; proposal = 1; valid = 0 }) (k .state)) k) (set t 325 7) (roomy 4) vote 0 ∷
+    calls (with-state (hearing 5 (record { prevotes = 0; precommits = 0; proposal = 2; valid = 0 }) (k .state)) k) (set t 325 7) (roomy 4) vote 0 ∷
+    calls (with-state (hearing 5 (record { prevotes = 0; precommits = 0; proposal = 3; valid = 0 }) (k .state)) k) (set t 325 7) (roomy 4) vote 1 ∷
     -- 1: "a heard proposal with name 0 or a valid round below -1 or not below its own"
     calls (with-state (hearing 5 (hears true 5 0 0) (k .state)) k) (set t 325 7) (roomy 4) vote 0 ∷
     calls (with-state (hearing 5 (hears true 6 0 0) (k .state)) k) (set t 325 7) (roomy 4) vote 1 ∷

@@ -41,10 +41,13 @@ impl Kiosk {
     pub fn judged(self, table: &[u64], area: usize, i: Input) -> Answer
         ensures { λ a. ⌜ a ≡ judged area self (desk (self .state) (now (table .entry))) i ⌝ }
     {
+        if !self.used_fits(area) {
+            return Answer::Impossible;
+        }
         let s = self.state;
         if !desk_fits(s, table) {
             return Answer::Impossible;
         }
-        self.judged_possible(table, area, i)
+        refused_input(s, table, i)
     }
 }

@@ -19,10 +19,11 @@ use Rattle.rules.specs.declared.State.{State}
 use Rattle.rules.specs.declared.Input.{Input}
 use Rattle.rules.specs.State.{settled-round, is-fresh, is-settled}
 use Rattle.rules.specs.Log.{Desk, desk}
+use Rattle.rules.specs.Rules.{first-rule, is-rule}
 use Rattle.rules.specs.Ready.{Ready}
 use Rattle.answers.specs.declared.Answer.{Answer}
 use Rattle.answers.specs.declared.Answer.the-variants.{Accepted, AlreadySettled, OutOfOrder, OtherHeight, BadField, OwnNumber, NotProposer, HeardSame, HeardOther, TimerNotDue, LastRound}
-use Rattle.refusals.specs.Possible.{round-fits, held-fits, at-rest, desk-fits}
+use Rattle.refusals.specs.Possible.{round-fits, held-fits, fresh-fits, at-rest, desk-fits}
 use Rattle.refusals.specs.Refusals.{is-start, is-proposal, is-vote, is-timer, kind-fits, fields-fit, place-heard, same-heard, timer-due, refused-message, refused-input}
 
 -- ---- the table before start: its numbers are passed while they are 0
@@ -129,8 +130,17 @@ module _ (s : State) (t : List ℕ) (b : Begun s t) {all : Bool} (rounds : all �
     pub held-not : not (x && z) ≡ true → false ≡ desk-fits (desk s t)
     held-not n = rw (begun, ← locked, ← valid, not-false all y, not-true (x && z) n)
 
-    pub held-then : not (x && z) ≡ false → {r : Bool} → r ≡ at-rest (desk s t) → r ≡ desk-fits (desk s t)
-    held-then h e = rw (begun, ← locked, ← valid, not-false all y, not-false (x && z) h, e)
+    module _ (h : not (x && z) ≡ false) {r : Bool} where
+      held-then : r ≡ at-rest (desk s t) → r ≡ desk-fits (desk s t)
+      held-then e = rw (begun, ← locked, ← valid, not-false all y, not-false (x && z) h, e)
+
+      pub fresh-then : is-fresh (s .phase) ≡ true → r ≡ fresh-fits (desk s t) → r ≡ desk-fits (desk s t)
+      unfolding at-rest
+      fresh-then f e = held-then (rw (f, e))
+
+      pub started-then : is-fresh (s .phase) ≡ false → r ≡ not (is-rule (first-rule (desk s t))) → r ≡ desk-fits (desk s t)
+      unfolding at-rest
+      started-then f e = held-then (rw (f, e))
 
 -- ---- the input
 

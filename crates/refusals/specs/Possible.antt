@@ -6,7 +6,7 @@ use lib.Dec.{ltb, leb, eqb}
 use Rattle.words.specs.Choice.{if_then_else_, all-below, all-zero}
 use Rattle.roll.specs.Weighing.{roll-fits, own-fits}
 use Rattle.rules.specs.declared.Held.{Held}
-use Rattle.rules.specs.State.{is-fresh, settled-round, silent}
+use Rattle.rules.specs.State.{is-fresh, settled-round, silent, spoken}
 use Rattle.rules.specs.Log.{Desk, table-length, heard, proposed}
 use Rattle.rules.specs.Doing.{current}
 use Rattle.rules.specs.Rules.{first-rule, is-rule}
@@ -15,14 +15,16 @@ use Rattle.rules.specs.Rules.{first-rule, is-rule}
 abbrev pub held-fits : ℕ → Held → Bool
 held-fits r h = leb (h .next) (suc r) && (if eqb (h .next) 0 then eqb (h .name) 0 else not (eqb (h .name) 0))
 
--- "a mark for a seat not on the roll"; "a heard proposal with name 0 or a valid round below -1 or not below its own"
+-- "a mark for a seat not on the roll"; a number that says nothing of a proposal; "a heard proposal with name 0 or a valid round below -1
+-- or not below its own"
 unfoldable pub round-fits : Desk → ℕ → Bool
 round-fits d r =
     let h = heard d r in
     let n = d .state .roll .kiosks in
     ltb (h .prevotes) (2 ^ n) &&
     ltb (h .precommits) (2 ^ n) &&
-    (not (h .proposal) || (not (eqb (proposed d r) 0) && leb (h .valid) r))
+    leb (h .proposal) 2 &&
+    (not (spoken h) || (not (eqb (proposed d r) 0) && leb (h .valid) r))
 
 -- "not started yet with anything heard, a table place not 0, a round not 0, or a lock or valid sheet held"
 unfoldable pub fresh-fits : Desk → Bool

@@ -7,7 +7,7 @@ use Rattle.words.specs.Choice.{if_then_else_}
 use Rattle.words.specs.Marks.{marked}
 use Rattle.roll.specs.Weighing.{proposer}
 use Rattle.rules.specs.declared.Input.{Input}
-use Rattle.rules.specs.State.{is-fresh, is-settled, is-propose, is-prevote}
+use Rattle.rules.specs.State.{is-fresh, is-settled, is-propose, is-prevote, spoken}
 use Rattle.rules.specs.Log.{Desk, heard, proposed, prevoted, precommitted}
 use Rattle.rules.specs.Doing.{current, step, own}
 use Rattle.answers.specs.declared.Answer.{Answer}
@@ -61,7 +61,7 @@ fields-fit n rounds i =
 unfoldable pub place-heard : Desk → Input → Bool
 place-heard d i =
     let h = heard d (i .round .0) in
-    if is-proposal i then h .proposal
+    if is-proposal i then spoken h
     else if eqb (i .kind) 3 then marked (h .prevotes) (i .sender)
     else if eqb (i .kind) 4 then marked (h .precommits) (i .sender)
     else false

@@ -1,14 +1,14 @@
 // Refusal 1: whether a voting state and a table are possible.
-use firing::fire::is_quiet;
-use roll::Power;
+use applies::when::first_rule;
 use roll::Round;
 use rules::Heard;
 use rules::Held;
-use rules::Phase;
 use rules::State;
 use rules::log::proposed;
 use rules::tests::is_fresh;
+use rules::tests::is_rule;
 use rules::tests::is_silent;
+use rules::tests::settled_round;
 ghost use Prim.Native.Nat.{ℕ, _+_, _≤_, _<_};
 ghost use mathlib.Core.Path.{_≡_};
 ghost use mathlib.Core.List.{List};
@@ -16,11 +16,9 @@ ghost use mathlib.Core.Bool.{_&&_, _||_, not};
 ghost use lib.Dec.{ltb, leb, eqb};
 ghost use lib.ListN.{length};
 ghost use Rattle.words.specs.Choice.{all-below, all-zero};
-ghost use Rattle.roll.specs.Weighing.{total-of};
-ghost use Rattle.rules.specs.State.{settled-round, silent};
+ghost use Rattle.rules.specs.State.{silent, spoken};
 ghost use Rattle.rules.specs.Log.{desk, heard, table-length};
-ghost use Rattle.rules.specs.Ready.{Ready};
-ghost use Rattle.refusals.specs.Possible.{held-fits, round-fits, fresh-fits, at-rest, desk-fits};
+ghost use Rattle.refusals.specs.Possible.{held-fits, round-fits, fresh-fits, desk-fits};
 
 // Whether a sheet is held from a round up to the current one, with a name; or none is.
 fn held_fits(r: Round, h: Held) -> bool
@@ -37,11 +35,12 @@ fn held_fits(r: Round, h: Held) -> bool
 
 // What is heard of a round and the name of its proposal; `seats` is one mark past the roll's last.
 fn round_fits(seats: u64, h: Heard, name: u64, r: Round) -> bool
-    ensures { λ b. ⌜ b ≡ (ltb (h .prevotes) seats && ltb (h .precommits) seats && (not (h .proposal) || (not (eqb name 0) && leb (h .valid) (r .0)))) ⌝ }
+    ensures { λ b. ⌜ b ≡ (ltb (h .prevotes) seats && ltb (h .precommits) seats && leb (h .proposal) 2 && (not (spoken h) || (not (eqb name 0) && leb (h .valid) (r .0)))) ⌝ }
 {
     ((h.prevotes as u64) < seats)
         & ((h.precommits as u64) < seats)
-        & (!h.proposal | (!(name == 0) & (h.valid <= r.0)))
+        & (h.proposal <= 2)
+        & (!(h.proposal != 0) | (!(name == 0) & (h.valid <= r.0)))
 }
 
 fn rounds_fit(s: State, table: &[u64]) -> bool
@@ -95,30 +94,7 @@ fn fresh_fits(s: State, table: &[u64]) -> bool
     all_zero(table) & (s.stand.round.0 == 0) & (s.locked.next == 0) & (s.valid.next == 0)
 }
 
-// The round that a kiosk settled in, 0 before that.
-fn settled_round(p: Phase) -> u8
-    ensures { λ r. ⌜ r ≡ settled-round p ⌝ }
-{
-    match p {
-        Phase::Fresh => 0,
-        Phase::Running => 0,
-        Phase::Settled(r) => r.0,
-    }
-}
-
-// Not started and nothing heard, or started with no rule that applies.
-fn at_rest(s: State, table: &[u64], total: Power) -> bool
-    requires { ⌜ Ready s (now table) × (total .0 ≡ total-of (s .roll)) ⌝ }
-    ensures { λ b. ⌜ b ≡ at-rest (desk s (now (table .entry))) ⌝ }
-{
-    let phase = s.phase;
-    if is_fresh(phase) {
-        return fresh_fits(s, table);
-    }
-    is_quiet(s, table, total)
-}
-
-// The voting state and the table.
+// The voting state and the table: once started, no rule may apply.
 pub fn desk_fits(s: State, table: &[u64]) -> bool
     ensures { λ b. ⌜ b ≡ desk-fits (desk s (now (table .entry))) ⌝ }
 {
@@ -146,5 +122,8 @@ pub fn desk_fits(s: State, table: &[u64]) -> bool
     if !(held_fits(r, s.locked) & held_fits(r, s.valid)) {
         return false;
     }
-    at_rest(s, table, roll.total())
+    if is_fresh(phase) {
+        return fresh_fits(s, table);
+    }
+    !is_rule(first_rule(s, table, roll.total()))
 }

@@ -95,7 +95,7 @@ fn place_heard(s: State, i: Input) -> bool
     let h = s.heard(i.round);
     let seat = i.sender as usize;
     if is_proposal(i) {
-        return h.proposal;
+        return h.proposal != 0;
     }
     if i.kind == 3 {
         return is_marked(h.prevotes, seat);

@@ -5,12 +5,13 @@ use mathlib.Core.Bool.{Bool, true, false, _&&_, false≢true}
 use mathlib.Core.List.{List}
 use native.Mathlib.Numerals.{add-one}
 use native.Mathlib.Omega.{arith}
-use borrow.Author.Tests.{le-leb, lt-leb}
+use borrow.Author.Tests.{ltb-false, le-ltb, le-leb, lt-leb}
 use lib.Dec.{leb}
 use lib.ListN.{getD, drop, replicate}
 use Rattle.words.specs.Choice.{if_then_else_, all-below}
+use Rattle.words.proofs.Choice.{and-left}
 use Rattle.roll.specs.declared.Roll.{Roll}
-use Rattle.roll.specs.Weighing.{power-below, total-of, roll-fits}
+use Rattle.roll.specs.Weighing.{large, power-below, total-of, roll-fits}
 
 -- one seat more: b says whether it counts, and x is what it adds
 pub power-more : (ps : List ℕ) (f : ℕ → Bool) (k : ℕ) {s x : ℕ} {b : Bool} → s ≡ power-below ps f k → b ≡ f k
@@ -58,6 +59,14 @@ unfolding power-below
 power-mono ps f g zero h = omega arith
 power-mono ps f g (suc n) h =
     omega (arith, power-mono ps f g n (λ i l. h i (omega arith)), seat-mono (f n) (g n) (getD ps n 0) (h n (omega arith)))
+
+-- where the seats that pass a test are not large, those that pass another too are not
+pub large-not : (ps : List ℕ) (f g : ℕ → Bool) (n total : ℕ) {p : ℕ} → p ≡ power-below ps f n → large total p ≡ false
+    → large total (power-below ps (λ i. f i && g i) n) ≡ false
+large-not ps f g n total e fails =
+    let few = ltb-false (2 * total) _ fails in
+    let less = power-mono ps (λ i. f i && g i) f n (λ i l. and-left (f i) (g i)) in
+    le-ltb (2 * total) _ (omega (arith, e, few, less))
 
 -- the same steps for a test of every seat
 pub all-more : (f : ℕ → Bool) (k : ℕ) {b t : Bool} → b ≡ all-below k f → t ≡ f k → (b && t) ≡ all-below (k + 1) f

@@ -11,7 +11,7 @@ ghost use lib.Dec.{eqb, leb};
 ghost use lib.ListN.{length, getD};
 ghost use Rattle.words.specs.Choice.{if_then_else_, all-below};
 ghost use Rattle.words.specs.Marks.{marked};
-ghost use Rattle.roll.specs.Weighing.{large, some, power-of, total-of, proposer, roll-fits, own-fits, roll-with};
+ghost use Rattle.roll.specs.Weighing.{large, some, power-below, total-of, proposer, roll-fits, own-fits, roll-with};
 
 impl Power {
     // More than two thirds of the total.
@@ -48,6 +48,63 @@ fn is_named(marks: u32, seat: usize, table: &[u64], cell: usize, name: u64) -> b
     table[cell] == name
 }
 
+// The power of the seats marked.
+pub fn weigh(powers: &[u16; 32], kiosks: usize, marks: u32) -> Power
+    requires { ⌜ kiosks ≤ 32 ⌝ }
+    ensures { λ r. ⌜ r .0 ≡ power-below (now (powers .entry)) (λ i. marked marks i) kiosks ⌝ }
+{
+    if marks == 0 {
+        return Power(0);
+    }
+    let mut sum: u32 = 0;
+    let mut i: usize = 0;
+    while i < kiosks {
+        sum += counted(powers[i], is_marked(marks, i));
+        i += 1;
+    }
+    Power(sum)
+}
+
+// The power of the seats marked whose cell, from `base` on, holds the name.
+pub fn weigh_named(
+    powers: &[u16; 32],
+    kiosks: usize,
+    marks: u32,
+    table: &[u64],
+    base: usize,
+    name: u64,
+) -> Power
+    requires { ⌜ (kiosks ≤ 32) × (base + 32 ≤ length (now table)) ⌝ }
+    ensures { λ r. ⌜ r .0 ≡ power-below (now (powers .entry)) (λ i. marked marks i && eqb (getD (now (table .entry)) (base + i) 0) name) kiosks ⌝ }
+{
+    let mut sum: u32 = 0;
+    let mut i: usize = 0;
+    while i < kiosks {
+        sum += counted(powers[i], is_named(marks, i, table, base + i, name));
+        i += 1;
+    }
+    Power(sum)
+}
+
+// Whether the seats marked whose cell holds the name are large. The names are read only where all the seats marked are.
+pub fn is_large_named(
+    powers: &[u16; 32],
+    kiosks: usize,
+    marks: u32,
+    table: &[u64],
+    base: usize,
+    name: u64,
+    total: Power,
+) -> bool
+    requires { ⌜ (kiosks ≤ 32) × (base + 32 ≤ length (now table)) ⌝ }
+    ensures { λ r. ⌜ r ≡ large (total .0) (power-below (now (powers .entry)) (λ i. marked marks i && eqb (getD (now (table .entry)) (base + i) 0) name) kiosks) ⌝ }
+{
+    if !weigh(powers, kiosks, marks).is_large(total) {
+        return false;
+    }
+    weigh_named(powers, kiosks, marks, table, base, name).is_large(total)
+}
+
 impl Roll {
     // 01: at most 32 kiosks.
     pub const MOST: usize = 32;
@@ -61,34 +118,6 @@ impl Roll {
         let mut i: usize = 0;
         while i < self.kiosks {
             sum += counted(self.powers[i], true);
-            i += 1;
-        }
-        Power(sum)
-    }
-
-    // The power of the seats marked.
-    pub fn weigh(self, marks: u32) -> Power
-        requires { ⌜ self .kiosks ≤ 32 ⌝ }
-        ensures { λ r. ⌜ r .0 ≡ power-of self (λ i. marked marks i) ⌝ }
-    {
-        let mut sum: u32 = 0;
-        let mut i: usize = 0;
-        while i < self.kiosks {
-            sum += counted(self.powers[i], is_marked(marks, i));
-            i += 1;
-        }
-        Power(sum)
-    }
-
-    // The power of the seats marked whose cell, from `base` on, holds the name.
-    pub fn weigh_named(self, marks: u32, table: &[u64], base: usize, name: u64) -> Power
-        requires { ⌜ (self .kiosks ≤ 32) × (base + 32 ≤ length (now table)) ⌝ }
-        ensures { λ r. ⌜ r .0 ≡ power-of self (λ i. marked marks i && eqb (getD (now (table .entry)) (base + i) 0) name) ⌝ }
-    {
-        let mut sum: u32 = 0;
-        let mut i: usize = 0;
-        while i < self.kiosks {
-            sum += counted(self.powers[i], is_named(marks, i, table, base + i, name));
             i += 1;
         }
         Power(sum)

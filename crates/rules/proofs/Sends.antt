@@ -46,12 +46,9 @@ adds (Line55 r) offer d =
     (λ e. one (rw one-more))
     (λ e. one (rw one-more))
 
--- a firing keeps what is sent, and adds at most one output
+-- a firing keeps what is sent
 pub fire-sends : (rule : Rule) (offer : ℕ) (d : Desk) → length (d .sent) ≤ length (fire rule offer d .sent)
 fire-sends rule offer d = adds rule offer d .least
-
-pub fire-sends-one : (rule : Rule) (offer : ℕ) (d : Desk) → length (fire rule offer d .sent) ≤ length (d .sent) + 1
-fire-sends-one rule offer d = adds rule offer d .most
 
 -- so does any number of firings keep it
 pub sent-grows : (n offer : ℕ) (d : Desk) → length (d .sent) ≤ length (fire-all n offer d .sent)

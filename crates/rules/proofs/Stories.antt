@@ -124,14 +124,13 @@ judged-bad i = record {
   offer = i .offer;
 }
 
--- what is heard of a round: the proposal, its valid round plus one, the marks of prevotes and of precommits
+-- what is heard of a round: a proposal with verdict 1 or none, its valid round plus one, the marks of prevotes and of precommits
 abbrev pub hears : Bool → ℕ → ℕ → ℕ → Heard
 hears proposal valid prevotes precommits = record {
-  proposal = proposal;
-  good = proposal;
-  valid = valid;
   prevotes = prevotes;
   precommits = precommits;
+  proposal = if proposal then 2 else 0;
+  valid = valid;
 }
 
 abbrev pub hearing : ℕ → Heard → State → State

@@ -2,7 +2,7 @@
 -- 01, "Lent table and state", "Weighing", and the house rules on own messages and on rule 55. Assumes nothing.
 use Prim.Native.Nat.{ℕ, _+_, _*_}
 use mathlib.Core.List.{List, [], _∷_}
-use mathlib.Core.Bool.{Bool, true, _&&_, _||_}
+use mathlib.Core.Bool.{Bool, _&&_, _||_}
 use lib.ListN.{getD, set, replicate}
 use lib.Dec.{eqb}
 use Rattle.words.specs.Choice.{if_then_else_}
@@ -11,7 +11,7 @@ use Rattle.roll.specs.Weighing.{power-of, proposer}
 use Rattle.rules.specs.declared.Heard.{Heard}
 use Rattle.rules.specs.declared.State.{State}
 use Rattle.rules.specs.declared.Output.{Output}
-use Rattle.rules.specs.State.{most-rounds, rounds-of, with-log, silence}
+use Rattle.rules.specs.State.{most-rounds, rounds-of, with-log, silence, spoken, good}
 
 -- What a call works on: how many rounds there are, the state, the lent table, and the outputs so far
 pub record Desk : Type 0 where
@@ -66,7 +66,7 @@ precommitted d r i = getD (d .table) (precommit-place r i) 0
 unfoldable pub good-sheets : Desk → ℕ → List ℕ
 good-sheets d r =
     let h = heard d r in
-    if h .proposal && h .good then proposed d r ∷ [] else []
+    if good h then proposed d r ∷ [] else []
 
 -- the desk once a message is put in the log, "over anything a made-up state holds there"
 abbrev pub logged : Desk → ℕ → Heard → ℕ → ℕ → Desk
@@ -80,18 +80,18 @@ logged d r h place name = record {
 unfoldable pub hear-proposal : Desk → ℕ → Bool → ℕ → ℕ → Desk
 hear-proposal d r good valid name =
     let h = heard d r in
-    logged d r (record { proposal = true; good = good; valid = valid; prevotes = h .prevotes; precommits = h .precommits }) (proposal-place r) name
+    logged d r (record { prevotes = h .prevotes; precommits = h .precommits; proposal = if good then 2 else 1; valid = valid }) (proposal-place r) name
 
 unfoldable pub hear-prevote : Desk → ℕ → ℕ → ℕ → Desk
 hear-prevote d r i name =
     let h = heard d r in
-    logged d r (record { proposal = h .proposal; good = h .good; valid = h .valid; prevotes = mark (h .prevotes) i; precommits = h .precommits })
+    logged d r (record { prevotes = mark (h .prevotes) i; precommits = h .precommits; proposal = h .proposal; valid = h .valid })
     (prevote-place r i) name
 
 unfoldable pub hear-precommit : Desk → ℕ → ℕ → ℕ → Desk
 hear-precommit d r i name =
     let h = heard d r in
-    logged d r (record { proposal = h .proposal; good = h .good; valid = h .valid; prevotes = h .prevotes; precommits = mark (h .precommits) i })
+    logged d r (record { prevotes = h .prevotes; precommits = mark (h .precommits) i; proposal = h .proposal; valid = h .valid })
     (precommit-place r i) name
 
 -- the powers that the rules weigh: prevotes of round r under any name, and under one; precommits so
@@ -120,7 +120,7 @@ unfoldable pub message-power : Desk → ℕ → ℕ
 message-power d r =
     let h = heard d r in
     let turn = proposer (d .state .roll) r in
-    power-of (d .state .roll) (λ i. (h .proposal && eqb turn i) || marked (h .prevotes) i || marked (h .precommits) i)
+    power-of (d .state .roll) (λ i. (spoken h && eqb turn i) || marked (h .prevotes) i || marked (h .precommits) i)
 
 -- To compute with this file: `unfolding the-log` opens the above.
 unfoldable pub the-log : Unit {0}

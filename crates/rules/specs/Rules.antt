@@ -8,7 +8,7 @@ use Rattle.roll.specs.Weighing.{large, some, total-of}
 use Rattle.rules.specs.declared.Phase.the-variants.{Settled}
 use Rattle.rules.specs.declared.Rule.{Rule}
 use Rattle.rules.specs.declared.Rule.the-variants.{Nothing, Line22, Line28, Line34, Line36, Line44, Line47, Line49, Line55}
-use Rattle.rules.specs.State.{is-running, is-propose, is-prevote, held, with-phase, with-stand, with-locked, with-valid, with-backed}
+use Rattle.rules.specs.State.{is-running, is-propose, is-prevote, spoken, good, held, with-phase, with-stand, with-locked, with-valid, with-backed}
 use Rattle.rules.specs.Log.{Desk, with-state, heard, proposed, good-sheets}
 use Rattle.rules.specs.Log.{prevote-power, prevote-power-for, precommit-power, precommit-power-for, message-power}
 use Rattle.rules.specs.Doing.{current, step, output, send, ask-prevote, ask-precommit, prevote, precommit, start-round}
@@ -25,7 +25,7 @@ is-some d power = some (total-of (d .state .roll)) power
 unfoldable pub applies-22 : Desk → Bool
 applies-22 d =
     let h = heard d (current d) in
-    is-propose (step d) && h .proposal && eqb (h .valid) 0
+    is-propose (step d) && spoken h && eqb (h .valid) 0
 
 -- line 28: the round's proposal, with a valid round before this one whose prevotes for it are large
 unfoldable pub applies-28 : Desk → Bool
@@ -33,7 +33,7 @@ applies-28 d =
     let r = current d in
     let h = heard d r in
     is-propose (step d) &&
-    h .proposal &&
+    spoken h &&
     leb 1 (h .valid) &&
     leb (h .valid) r &&
     is-large d (prevote-power-for d (pred (h .valid)) (proposed d r))
@@ -111,14 +111,14 @@ unfoldable pub vote-22 : Desk → ℕ
 vote-22 d =
     let r = current d in
     let locked = d .state .locked in
-    if heard d r .good && (eqb (locked .next) 0 || eqb (locked .name) (proposed d r)) then proposed d r else 0
+    if good (heard d r) && (eqb (locked .next) 0 || eqb (locked .name) (proposed d r)) then proposed d r else 0
 
 -- lines 29 to 32: the lock allows it also where lockedRound ≤ vr
 unfoldable pub vote-28 : Desk → ℕ
 vote-28 d =
     let r = current d in
     let locked = d .state .locked in
-    if heard d r .good && (leb (locked .next) (heard d r .valid) || eqb (locked .name) (proposed d r)) then proposed d r else 0
+    if good (heard d r) && (leb (locked .next) (heard d r .valid) || eqb (locked .name) (proposed d r)) then proposed d r else 0
 
 -- lines 37 to 43: at step prevote, lock the sheet and precommit it; at either step, hold it as valid
 unfoldable pub fire-36 : ℕ → Desk → Desk

@@ -57,10 +57,17 @@ is-prevote Precommit = false
 
 -- nothing is heard of a round
 abbrev pub silence : Heard
-silence = record { proposal = false; good = false; valid = 0; prevotes = 0; precommits = 0 }
+silence = record { prevotes = 0; precommits = 0; proposal = 0; valid = 0 }
 
 abbrev pub silent : Heard → Bool
-silent h = not (h .proposal) && eqb (h .prevotes) 0 && eqb (h .precommits) 0
+silent h = eqb (h .proposal) 0 && eqb (h .prevotes) 0 && eqb (h .precommits) 0
+
+-- the round's proposal is heard; and it is heard with verdict 1
+abbrev pub spoken : Heard → Bool
+spoken h = not (eqb (h .proposal) 0)
+
+abbrev pub good : Heard → Bool
+good h = eqb (h .proposal) 2
 
 -- no sheet is held: 003's nil and -1
 abbrev pub nothing : Held

@@ -42,14 +42,14 @@ pub struct Held {
     pub name: u64,
 }
 
-// What is heard of a round, names aside (the lent table has those): the proposal, whether its verdict was good, its valid round
-// plus one; and a mark for each seat whose prevote, and whose precommit, is heard.
+// What is heard of a round, names aside (the lent table has those): a mark for each seat whose prevote, and whose precommit, is
+// heard; the proposal (0: none is heard, 1: one with verdict 0, 2: one with verdict 1) and its valid round plus one.
+#[repr(C)]
 pub struct Heard {
-    pub proposal: bool,
-    pub good: bool,
-    pub valid: u8,
     pub prevotes: u32,
     pub precommits: u32,
+    pub proposal: u8,
+    pub valid: u8,
 }
 
 // The voting state of a kiosk.

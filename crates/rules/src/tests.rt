@@ -6,7 +6,7 @@ use crate::State;
 use crate::Step;
 ghost use mathlib.Core.Path.{_≡_};
 ghost use Rattle.words.specs.Choice.{if_then_else_};
-ghost use Rattle.rules.specs.State.{is-fresh, is-running, is-settled, is-propose, is-prevote, silent};
+ghost use Rattle.rules.specs.State.{is-fresh, is-running, is-settled, settled-round, is-propose, is-prevote, silent};
 ghost use Rattle.rules.specs.Rules.{is-rule};
 
 pub fn is_fresh(p: Phase) -> bool
@@ -36,6 +36,17 @@ pub fn is_settled(p: Phase) -> bool
         Phase::Fresh => false,
         Phase::Running => false,
         Phase::Settled(_) => true,
+    }
+}
+
+// The round that a kiosk settled in, 0 before that.
+pub fn settled_round(p: Phase) -> u8
+    ensures { λ r. ⌜ r ≡ settled-round p ⌝ }
+{
+    match p {
+        Phase::Fresh => 0,
+        Phase::Running => 0,
+        Phase::Settled(r) => r.0,
     }
 }
 
@@ -91,13 +102,6 @@ impl State {
         let step = stand.step;
         is_prevote(step)
     }
-
-    pub fn runs(self) -> bool
-        ensures { λ r. ⌜ r ≡ is-running (self .phase) ⌝ }
-    {
-        let phase = self.phase;
-        is_running(phase)
-    }
 }
 
 // One of two names.
@@ -111,5 +115,5 @@ pub fn pick(first: bool, a: u64, b: u64) -> u64
 pub fn is_silent(h: Heard) -> bool
     ensures { λ b. ⌜ b ≡ silent h ⌝ }
 {
-    !h.proposal & (h.prevotes == 0) & (h.precommits == 0)
+    (h.proposal == 0) & (h.prevotes == 0) & (h.precommits == 0)
 }

@@ -78,12 +78,6 @@ mark-seats m i j =
     ∙ ap (λ (b : Bool). marked m j || b) (one-mark i j)
     ∙ or-comm (marked m j) (eqb i j)
 
-pub mark-same : (m i : ℕ) → marked (mark m i) i ≡ true
-mark-same m i = mark-seats m i i ∙ ap (λ (b : Bool). b || marked m i) (eq-eqb i i refl)
-
-pub mark-other : (m i j : ℕ) → (i ≡ j → ⊥) → marked (mark m i) j ≡ marked m j
-mark-other m i j ne = mark-seats m i j ∙ ap (λ (b : Bool). b || marked m j) (ne-eqb i j ne)
-
 -- marks of n seats stay marks of n seats
 pub mark-below : (n i m : ℕ) → i < n → m < 2 ^ n → mark m i < 2 ^ n
 mark-below n i m h l = rw (mark-is-or m i) (or-lt n m (2 ^ i) l (pow-lt h))

@@ -36,8 +36,7 @@ fn kiosk() -> Kiosk {
             prevotes: u32::MAX - 100 - u32::from(number),
             precommits: u32::MAX - 200 - u32::from(number),
             proposal: number,
-            good: number + 20,
-            valid: number + 40,
+            valid: number + 20,
         };
     }
     kiosk
@@ -76,18 +75,17 @@ fn numbers(kiosk: &Kiosk) -> Vec<(usize, usize, u64)> {
             (18, index, heard.prevotes.into()),
             (19, index, heard.precommits.into()),
             (20, index, heard.proposal.into()),
-            (21, index, heard.good.into()),
-            (22, index, heard.valid.into()),
+            (21, index, heard.valid.into()),
         ]);
     }
     // A field or an index that there is not.
     numbers.extend([
         (7, KIOSKS, 0),
         (7, usize::MAX, 0),
-        (23, 0, 0),
+        (22, 0, 0),
         (usize::MAX, 0, 0),
     ]);
-    numbers.extend((18..=22).flat_map(|field| [(field, ROUNDS, 0), (field, usize::MAX, 0)]));
+    numbers.extend((18..=21).flat_map(|field| [(field, ROUNDS, 0), (field, usize::MAX, 0)]));
     numbers
 }
 
@@ -178,7 +176,7 @@ fn run_c(name: &str) -> String {
 fn layout_from_c() {
     assert_eq!(
         run_c("layout"),
-        "169 numbers, all where the library has them\n"
+        "153 numbers, all where the library has them\n"
     );
 }
 

@@ -170,7 +170,7 @@ fn change(bytes: &mut Bytes, lent: &mut Lent) {
         18 => heard.prevotes ^= marks,
         19 => heard.precommits ^= marks,
         20 => heard.proposal = byte,
-        21 => heard.good = byte,
+        21 => heard.proposal = byte % 4,
         22 => heard.valid = byte,
         23 | 24 => {
             let place = bytes.pair() % flat::TABLE;

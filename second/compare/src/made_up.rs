@@ -3,7 +3,7 @@
 use crate::calls::{Lent, JUNK};
 use crate::inputs;
 use crate::random::Random;
-use flat::{Heard, Kiosk, KIOSKS, TABLE};
+use flat::{Heard, Kiosk, BAD, GOOD, KIOSKS, TABLE};
 use second::Input;
 
 const SIZES: [usize; 11] = [0, 1, 4, 7, 8, 31, 32, 33, 1_000, usize::MAX - 1, usize::MAX];
@@ -41,8 +41,7 @@ pub fn change(lent: &mut Lent, random: &mut Random) {
         11 => kiosk.backed = yes,
         12 => (kiosk.locked_next, kiosk.locked_name) = held,
         13 => (kiosk.valid_next, kiosk.valid_name) = held,
-        14 => heard.proposal = yes,
-        15 => heard.good = yes,
+        14 | 15 => heard.proposal = random.below(3) as u8,
         16 => heard.valid = byte,
         17 => heard.prevotes ^= marks,
         18 => heard.precommits ^= marks,
@@ -69,15 +68,14 @@ pub fn unholdable(kiosk: &mut Kiosk, random: &mut Random) {
     let over = |random: &mut Random, most: u8| random.pick(&[most + 1, most + 2, 128, 255]);
     let flag = over(random, 1);
     let heard = &mut kiosk.log[random.below(16)];
-    match random.below(9) {
+    match random.below(8) {
         0 => kiosk.phase = over(random, 2),
         1 => kiosk.step = over(random, 2),
         2 => kiosk.asked_propose = flag,
         3 => kiosk.asked_prevote = flag,
         4 => kiosk.asked_precommit = flag,
         5 => kiosk.backed = flag,
-        6 => heard.proposal = flag,
-        7 => heard.good = flag,
+        6 => heard.proposal = over(random, 2),
         _ => {
             kiosk.phase = random.below(2) as u8;
             kiosk.settled = random.pick(&[1, 15, 16, 255]);
@@ -152,8 +150,7 @@ pub fn uniform(random: &mut Random) -> Lent {
         *heard = Heard {
             prevotes: (random.number() & random.number()) as u32 & seats,
             precommits: (random.number() & random.number()) as u32 & seats,
-            proposal: byte(random, 1),
-            good: byte(random, 1),
+            proposal: byte(random, 2),
             valid: byte(random, round),
         };
         table[65 * round..65 * (round + 1)].fill_with(|| random.pick(&[0, 40, 40, 41]));
@@ -221,8 +218,7 @@ pub fn ripe(random: &mut Random) -> (Lent, Input) {
         lent.kiosk.log[at] = Heard {
             prevotes: marks(near),
             precommits: marks(false),
-            proposal: u8::from(random.once_in(3)),
-            good: u8::from(!random.once_in(3)),
+            proposal: random.pick(&[0, 0, 0, 0, 0, 0, BAD, GOOD, GOOD]),
             valid: random.below(at + 1) as u8,
         };
         let names = &mut lent.table[65 * at..65 * (at + 1)];

@@ -35,8 +35,11 @@ pub fn flat_state(state: &State) -> Kiosk {
         log: state.rounds.map(|heard| flat::Heard {
             prevotes: heard.prevotes,
             precommits: heard.precommits,
-            proposal: heard.proposal.into(),
-            good: heard.good.into(),
+            proposal: match (heard.proposal, heard.good) {
+                (false, _) => 0,
+                (true, false) => flat::BAD,
+                (true, true) => flat::GOOD,
+            },
             valid: heard.valid,
         }),
     }
@@ -46,9 +49,12 @@ pub fn flat_state(state: &State) -> Kiosk {
 pub fn state(kiosk: &Kiosk) -> Option<State> {
     let mut rounds = State::unopened().rounds;
     for (round, heard) in rounds.iter_mut().zip(&kiosk.log) {
+        if heard.proposal > flat::GOOD {
+            return None;
+        }
         *round = Heard {
-            proposal: yes(heard.proposal)?,
-            good: yes(heard.good)?,
+            proposal: heard.proposal != 0,
+            good: heard.proposal == flat::GOOD,
             valid: heard.valid,
             prevotes: heard.prevotes,
             precommits: heard.precommits,

@@ -4,8 +4,8 @@ use crate::journal;
 use crate::rules::{self, place, PRECOMMITS, PREVOTES};
 use crate::rules::{proposer, Weights};
 use flat::{
-    Heard, Input, Kiosk, FRESH, KIOSKS, PRECOMMIT, PREVOTE, PROPOSE, ROUNDS, RUNNING, SETTLED,
-    TABLE,
+    Heard, Input, Kiosk, FRESH, GOOD, KIOSKS, PRECOMMIT, PREVOTE, PROPOSE, ROUNDS, RUNNING,
+    SETTLED, TABLE,
 };
 
 const MAX_POWER: u16 = 1_000;
@@ -48,13 +48,12 @@ fn held_allowed(next: u8, name: u64, round: u8) -> bool {
     next <= round + 1 && (next == 0) == (name == 0)
 }
 
-/// No mark past the roll, 0 or 1 where they must be, and each heard proposal one that can be.
+/// No mark past the roll, and each proposal one that can be.
 fn log_allowed(kiosk: &Kiosk, table: &[u64; TABLE]) -> bool {
     let off_roll = u32::MAX.checked_shl(kiosk.kiosks as u32).unwrap_or(0);
     kiosk.log.iter().enumerate().all(|(round, heard)| {
         (heard.prevotes | heard.precommits) & off_roll == 0
-            && heard.proposal <= 1
-            && heard.good <= 1
+            && heard.proposal <= GOOD
             && (heard.proposal == 0
                 || (usize::from(heard.valid) <= round && table[place(round)] != 0))
     })
@@ -95,7 +94,7 @@ pub fn refused(kiosk: &Kiosk, table: &[u64; TABLE], input: &Input) -> u32 {
                         return 7;
                     }
                     (
-                        heard.proposal == 1,
+                        heard.proposal != 0,
                         table[place(round)] == input.name && heard.valid == input.valid,
                     )
                 }

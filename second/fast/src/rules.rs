@@ -1,8 +1,8 @@
 //! Algorithm 1 of 003 with the house rules of 01, on seat marks.
 
 use flat::{
-    Input, Kiosk, Output, KIOSKS, PRECOMMIT, PREVOTE, PROPOSE, ROUNDS, RUNNING, SENT, SETTLED,
-    TABLE,
+    Input, Kiosk, Output, BAD, GOOD, KIOSKS, PRECOMMIT, PREVOTE, PROPOSE, ROUNDS, RUNNING, SENT,
+    SETTLED, TABLE,
 };
 
 /// Where the votes of a round stand after its first place.
@@ -92,7 +92,7 @@ pub fn applies(kiosk: &Kiosk, table: &[u64; TABLE], weights: &Weights) -> Option
         )
     };
     if kiosk.step == PROPOSE {
-        if heard.proposal == 1 {
+        if heard.proposal != 0 {
             if heard.valid == 0 {
                 return Some(Rule::L22);
             }
@@ -106,7 +106,7 @@ pub fn applies(kiosk: &Kiosk, table: &[u64; TABLE], weights: &Weights) -> Option
         if prevote && kiosk.asked_prevote == 0 && power(kiosk, heard.prevotes) > weights.large {
             return Some(Rule::L34);
         }
-        if kiosk.backed == 0 && heard.proposal & heard.good == 1 && prevotes_for(round, sheet) {
+        if kiosk.backed == 0 && heard.proposal == GOOD && prevotes_for(round, sheet) {
             return Some(Rule::L36);
         }
         if prevote && prevotes_for(round, 0) {
@@ -118,7 +118,7 @@ pub fn applies(kiosk: &Kiosk, table: &[u64; TABLE], weights: &Weights) -> Option
     }
     for (round, heard) in kiosk.log.iter().enumerate() {
         let from = place(round) + PRECOMMITS;
-        if heard.proposal & heard.good == 1
+        if heard.proposal == GOOD
             && large_for(
                 kiosk,
                 table,
@@ -133,7 +133,7 @@ pub fn applies(kiosk: &Kiosk, table: &[u64; TABLE], weights: &Weights) -> Option
     }
     for (round, heard) in kiosk.log.iter().enumerate().skip(round + 1).rev() {
         let mut senders = heard.prevotes | heard.precommits;
-        if heard.proposal == 1 {
+        if heard.proposal != 0 {
             senders |= 1 << proposer(kiosk, round);
         }
         if power(kiosk, senders) > weights.some {
@@ -189,8 +189,7 @@ impl<'a> Call<'a> {
             }
             2 => {
                 let heard = &mut self.kiosk.log[round];
-                heard.proposal = 1;
-                heard.good = input.verdict;
+                heard.proposal = BAD + input.verdict;
                 heard.valid = input.valid;
                 self.write(place(round), input.name);
             }
@@ -288,15 +287,14 @@ impl<'a> Call<'a> {
             return;
         }
         let heard = &mut self.kiosk.log[at];
-        heard.proposal = 1;
-        heard.good = 1;
+        heard.proposal = GOOD;
         heard.valid = valid;
         self.write(place(at), name);
         self.send(1, valid, name);
     }
 
     fn prevote_on(&mut self, free: bool, sheet: u64) {
-        let good = self.kiosk.log[usize::from(self.kiosk.round)].good == 1;
+        let good = self.kiosk.log[usize::from(self.kiosk.round)].proposal == GOOD;
         self.prevote(if good && free { sheet } else { 0 });
     }
 

@@ -17,13 +17,16 @@ pub const PROPOSE: u8 = 0;
 pub const PREVOTE: u8 = 1;
 pub const PRECOMMIT: u8 = 2;
 
+/// What `Heard::proposal` says beside 0, that none is heard: one with verdict 0, and one with verdict 1.
+pub const BAD: u8 = 1;
+pub const GOOD: u8 = 2;
+
 #[repr(C)]
 #[derive(Clone, Copy, Default, PartialEq, Eq, Debug)]
 pub struct Heard {
     pub prevotes: u32,
     pub precommits: u32,
     pub proposal: u8,
-    pub good: u8,
     pub valid: u8,
 }
 

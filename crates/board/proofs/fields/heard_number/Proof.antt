@@ -17,9 +17,6 @@ cast-result-3 c = search needs
 cast-result-4 : tie.Need-cast-result-4
 cast-result-4 c = search needs
 
-cast-result-5 : tie.Need-cast-result-5
-cast-result-5 c = search needs
-
 returns : tie.Need-returns
 unfolding heard-number
 returns c = rw (c .before .match .keys1)
@@ -38,11 +35,7 @@ returns-4 c = rw (c .before .match .keys4)
 
 returns-5 : tie.Need-returns-5
 unfolding heard-number
-returns-5 c = rw (c .before .match .keys5)
-
-returns-6 : tie.Need-returns-6
-unfolding heard-number
-returns-6 c = rw (ne-eqb _ 18 (c .match .rest .0 .0 .0 .0 .1), ne-eqb _ 19 (c .match .rest .0 .0 .0 .1), ne-eqb _ 20 (c .match .rest .0 .0 .1), ne-eqb _ 21 (c .match .rest .0 .1), ne-eqb _ 22 (c .match .rest .1))
+returns-5 c = rw (ne-eqb _ 18 (c .match .rest .0 .0 .0 .1), ne-eqb _ 19 (c .match .rest .0 .0 .1), ne-eqb _ 20 (c .match .rest .0 .1), ne-eqb _ 21 (c .match .rest .1))
 
 pub heard-number-spec : {M : Type 1} → statement M
 heard-number-spec =
@@ -52,10 +45,8 @@ heard-number-spec =
     cast-result-2
     cast-result-3
     cast-result-4
-    cast-result-5
     returns
     returns-2
     returns-3
     returns-4
-    returns-5
-    returns-6)
+    returns-5)

@@ -12,13 +12,42 @@ number-of-requires c κs = search needs
 place-of-requires : tie.Need-place-of-requires
 place-of-requires c κs = search needs
 
-flat-kiosk-requires : tie.Need-flat-kiosk-requires
-flat-kiosk-requires c κs = search needs
+phase-number-requires : tie.Need-phase-number-requires
+phase-number-requires c κs = search needs
+
+settled-round-requires : tie.Need-settled-round-requires
+settled-round-requires c κs = search needs
+
+step-number-requires : tie.Need-step-number-requires
+step-number-requires c κs = search needs
+
+flag-requires : tie.Need-flag-requires
+flag-requires c κs = search needs
+
+flag-requires-2 : tie.Need-flag-requires-2
+flag-requires-2 c κs = search needs
+
+flag-requires-3 : tie.Need-flag-requires-3
+flag-requires-3 c κs = search needs
+
+flag-requires-4 : tie.Need-flag-requires-4
+flag-requires-4 c κs = search needs
 
 returns : tie.Need-returns
-returns c = rw (c .flat-kiosk .ensures, c .before .place-of .ensures, c .before .before .number-of .ensures, c .before .before .before .flat-list .ensures)
+returns c = rw (c .flag4 .ensures, c .before .flag3 .ensures, c .before .before .flag2 .ensures, c .before .before .before .flag .ensures, c .before .before .before .before .step-number .ensures, c .before .before .before .before .before .settled-round .ensures, c .before .before .before .before .before .before .phase-number .ensures, c .before .before .before .before .before .before .before .place-of .ensures, c .before .before .before .before .before .before .before .before .number-of .ensures, c .before .before .before .before .before .before .before .before .before .flat-list .ensures)
 
 pub flat-reply-spec : {M : Type 1} → statement M
 flat-reply-spec =
     tie.close
-    (tie.spec flat-list-requires number-of-requires place-of-requires flat-kiosk-requires returns)
+    (tie.spec
+    flat-list-requires
+    number-of-requires
+    place-of-requires
+    phase-number-requires
+    settled-round-requires
+    step-number-requires
+    flag-requires
+    flag-requires-2
+    flag-requires-3
+    flag-requires-4
+    returns)

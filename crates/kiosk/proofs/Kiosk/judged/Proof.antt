@@ -1,23 +1,44 @@
 -- `kiosk::Kiosk::judged` meets its contract. Assumes nothing.
-use mathlib.Core.Path.{sym, _∙_}
+use mathlib.Core.Path.{_≡_, refl, sym, _∙_}
+use mathlib.Core.Bool.{Bool, true, false, _&&_}
 use borrow.Author.Tests.{not-true, not-false}
 use Rattle.kiosk.specs.Judged.{judged}
+use Rattle.refusals.proofs.Judging.{desk-ready}
 use borrow.Author.Needs.{needs}
 use Rattle.kiosk.proofs.Kiosk.judged.Statement.{statement}
 use Rattle.kiosk.proofs.Kiosk.judged.Tie as tie
 
-desk-fits-requires : tie.Need-desk-fits-requires
-desk-fits-requires c κs = search needs
+and-false : (b : Bool) → (b && false) ≡ false
+and-false true = refl
+and-false false = refl
+
+used-fits-requires : tie.Need-used-fits-requires
+used-fits-requires c κs = search needs
 
 returns : tie.Need-returns
 unfolding judged
-returns c = rw (sym (c .before .desk-fits .ensures) ∙ not-true (c .before .desk-fits .result) (c .if1 .taken))
+returns c = rw (sym (c .before .used-fits .ensures) ∙ not-true (c .before .used-fits .result) (c .if1 .taken), and-false)
 
-judged-possible-requires : tie.Need-judged-possible-requires
-judged-possible-requires c κs = sym (c .before .desk-fits .ensures) ∙ not-false (c .before .desk-fits .result) (c .if1 .left)
+desk-fits-requires : tie.Need-desk-fits-requires
+desk-fits-requires c κs = search needs
 
 returns-2 : tie.Need-returns-2
-returns-2 c = c .judged-possible .ensures
+unfolding judged
+returns-2 c = rw (sym (c .before .desk-fits .ensures) ∙ not-true (c .before .desk-fits .result) (c .if2 .taken))
+
+refused-input-requires : tie.Need-refused-input-requires
+refused-input-requires c κs = desk-ready _ _ (sym (c .before .desk-fits .ensures) ∙ not-false (c .before .desk-fits .result) (c .if2 .left))
+
+returns-3 : tie.Need-returns-3
+unfolding judged
+returns-3 c =
+    let d = c .before in
+    let b = d .before .before .before in
+    rw (
+      c .refused-input .ensures,
+      sym (d .before .desk-fits .ensures) ∙ not-false (d .before .desk-fits .result) (d .if2 .left),
+      sym (b .before .used-fits .ensures) ∙ not-false (b .before .used-fits .result) (b .if1 .left),
+    )
 
 pub judged-spec : {M : Type 1} → statement M
-judged-spec = tie.close (tie.spec desk-fits-requires returns judged-possible-requires returns-2)
+judged-spec = tie.close (tie.spec used-fits-requires returns desk-fits-requires returns-2 refused-input-requires returns-3)

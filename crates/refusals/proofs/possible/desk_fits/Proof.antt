@@ -3,7 +3,7 @@ use mathlib.Core.Path.{_≡_, sym, _∙_}
 use mathlib.Core.Bool.{true}
 use borrow.Author.Tests.{not-true, not-false}
 use Rattle.roll.specs.Weighing.{roll-fits, own-fits}
-use Rattle.refusals.proofs.Judging.{roll-not, own-not, places-not, round-not, settled-not, rounds-not, held-not, held-then, few-kiosks, ready, Begun}
+use Rattle.refusals.proofs.Judging.{roll-not, own-not, places-not, round-not, settled-not, rounds-not, held-not, fresh-then, started-then, few-kiosks, ready, Begun}
 use borrow.Author.Needs.{needs}
 use Rattle.refusals.proofs.possible.desk_fits.Statement.{statement}
 use Rattle.refusals.proofs.possible.desk_fits.Tie as tie
@@ -75,20 +75,40 @@ returns-7 c =
     let g = h .before .before .before in
     held-not _ _ (has-begun (g .before .before)) (g .before .rounds-fit .ensures) (g .if6 .left) (h .before .held-fits .ensures) (h .held-fits2 .ensures) (c .if7 .taken)
 
-total-requires : tie.Need-total-requires
-total-requires c κs = few-kiosks _ (has-begun (c .before .before .before .before .before .before) .roll)
+is-fresh-requires : tie.Need-is-fresh-requires
+is-fresh-requires c κs = search needs
 
-at-rest-requires : tie.Need-at-rest-requires
-at-rest-requires c κs =
-    let e = has-begun (c .before .before .before .before .before .before .before) in
-    (ready _ _ (e .roll) (e .own) (e .places) (e .round), c .total .ensures)
+fresh-fits-requires : tie.Need-fresh-fits-requires
+fresh-fits-requires c κs = search needs
 
 returns-8 : tie.Need-returns-8
 returns-8 c =
-    let k = c .before .before in
+    let f = c .before in
+    let k = f .before .before in
     let h = k .before in
     let g = h .before .before .before in
-    held-then _ _ (has-begun (g .before .before)) (g .before .rounds-fit .ensures) (g .if6 .left) (h .before .held-fits .ensures) (h .held-fits2 .ensures) (k .if7 .left) (c .at-rest .ensures)
+    fresh-then _ _ (has-begun (g .before .before)) (g .before .rounds-fit .ensures) (g .if6 .left) (h .before .held-fits .ensures) (h .held-fits2 .ensures) (k .if7 .left)
+    (sym (f .before .is-fresh .ensures) ∙ f .if8 .taken) (c .fresh-fits .ensures)
+
+total-requires : tie.Need-total-requires
+total-requires c κs = few-kiosks _ (has-begun (c .before .before .before .before .before .before .before .before) .roll)
+
+first-rule-requires : tie.Need-first-rule-requires
+first-rule-requires c κs =
+    let e = has-begun (c .before .before .before .before .before .before .before .before .before) in
+    (ready _ _ (e .roll) (e .own) (e .places) (e .round), c .total .ensures)
+
+is-rule-requires : tie.Need-is-rule-requires
+is-rule-requires c κs = search needs
+
+returns-9 : tie.Need-returns-9
+returns-9 c =
+    let f = c .before .before .before in
+    let k = f .before .before in
+    let h = k .before in
+    let g = h .before .before .before in
+    started-then _ _ (has-begun (g .before .before)) (g .before .rounds-fit .ensures) (g .if6 .left) (h .before .held-fits .ensures) (h .held-fits2 .ensures) (k .if7 .left)
+    (sym (f .before .is-fresh .ensures) ∙ f .if8 .left) (rw (c .is-rule .ensures, c .before .first-rule .ensures))
 
 pub desk-fits-spec : {M : Type 1} → statement M
 desk-fits-spec =
@@ -107,6 +127,10 @@ desk-fits-spec =
     held-fits-requires
     held-fits-requires-2
     returns-7
+    is-fresh-requires
+    fresh-fits-requires
+    returns-8
     total-requires
-    at-rest-requires
-    returns-8)
+    first-rule-requires
+    is-rule-requires
+    returns-9)

@@ -19,7 +19,7 @@ returns : tie.Need-returns
 unfolding place-heard
 returns c =
     let a = c .before in
-    λ t. rw (a .before .before .heard .ensures, sym (a .is-proposal .ensures) ∙ c .if1 .taken)
+    λ t. rw (a .before .before .before .heard .ensures, sym (a .before .is-proposal .ensures) ∙ a .if1 .taken)
 
 is-marked-requires : tie.Need-is-marked-requires
 is-marked-requires c κs = search needs
