@@ -1,23 +1,19 @@
 -- `kiosk::Kiosk::judged` meets its contract. Assumes nothing.
-use mathlib.Core.Path.{_≡_, refl, sym, _∙_}
-use mathlib.Core.Bool.{Bool, true, false, _&&_}
+use mathlib.Core.Path.{sym, _∙_}
 use borrow.Author.Tests.{not-true, not-false}
+use Rattle.words.proofs.Choice.{and-false}
 use Rattle.kiosk.specs.Judged.{judged}
 use Rattle.refusals.proofs.Judging.{desk-ready}
 use borrow.Author.Needs.{needs}
 use Rattle.kiosk.proofs.Kiosk.judged.Statement.{statement}
 use Rattle.kiosk.proofs.Kiosk.judged.Tie as tie
 
-and-false : (b : Bool) → (b && false) ≡ false
-and-false true = refl
-and-false false = refl
-
 used-fits-requires : tie.Need-used-fits-requires
 used-fits-requires c κs = search needs
 
 returns : tie.Need-returns
 unfolding judged
-returns c = rw (sym (c .before .used-fits .ensures) ∙ not-true (c .before .used-fits .result) (c .if1 .taken), and-false)
+returns c = rw (and-false _ _ (λ y. sym (c .before .used-fits .ensures) ∙ not-true (c .before .used-fits .result) (c .if1 .taken)))
 
 desk-fits-requires : tie.Need-desk-fits-requires
 desk-fits-requires c κs = search needs
