@@ -65,14 +65,6 @@ enum slip_output_kind {
     SLIP_OUT_ASK_PROPOSE = 4, SLIP_OUT_ASK_PREVOTE = 5, SLIP_OUT_ASK_PRECOMMIT = 6, SLIP_OUT_SETTLED = 7
 };
 
-/* What is heard of a round, names aside (the table has those). */
-struct slip_heard {
-    uint32_t prevotes;   /* bit i: the prevote of seat i is heard */
-    uint32_t precommits; /* bit i: the precommit of seat i is heard */
-    uint8_t proposal;    /* slip_proposal; another is refusal 1 */
-    uint8_t valid;       /* its valid round plus one */
-};
-
 /* The state of a kiosk. Zeros are the unopened state. */
 struct slip_kiosk {
     size_t kiosks;          /* how many are on the roll; 0: unopened */
@@ -93,7 +85,11 @@ struct slip_kiosk {
     uint8_t backed;         /* 1: a sheet was backed in this round */
     uint8_t locked_next;    /* the locked sheet's round plus one, 0: none */
     uint8_t valid_next;     /* the valid sheet's round plus one, 0: none */
-    struct slip_heard log[SLIP_ROUNDS];
+    /* The log: what is heard of each round, names aside (the table has those). */
+    uint32_t prevotes[SLIP_ROUNDS];   /* bit i: the prevote of seat i is heard */
+    uint32_t precommits[SLIP_ROUNDS]; /* bit i: the precommit of seat i is heard */
+    uint8_t proposals[SLIP_ROUNDS];   /* slip_proposal; another is refusal 1 */
+    uint8_t valids[SLIP_ROUNDS];      /* the proposal's valid round plus one */
 };
 
 struct slip_input {
@@ -155,12 +151,12 @@ struct slip_part slip_last(struct slip_kiosk kiosk, const uint8_t *journal, size
 struct slip_page slip_list(const uint8_t *journal, size_t count, uint8_t *text, size_t room);
 
 /* For a caller to see that its compiler lays the fields as the library does. Fields are numbered from 0 in the order of the structs
- * above; a field of an array, or of the log's array of structs, takes an index too, which is not looked at for the others. */
+ * above; a field that is an array takes an index too, which is not looked at for the others. */
 enum slip_kiosk_field {
     SLIP_F_KIOSKS, SLIP_F_OWN, SLIP_F_USED, SLIP_F_LAST, SLIP_F_LOCKED_NAME, SLIP_F_VALID_NAME, SLIP_F_HEIGHT, SLIP_F_POWERS,
     SLIP_F_PHASE, SLIP_F_SETTLED, SLIP_F_ROUND, SLIP_F_STEP, SLIP_F_ASKED_PROPOSE, SLIP_F_ASKED_PREVOTE, SLIP_F_ASKED_PRECOMMIT,
     SLIP_F_BACKED, SLIP_F_LOCKED_NEXT, SLIP_F_VALID_NEXT,
-    SLIP_F_LOG_PREVOTES, SLIP_F_LOG_PRECOMMITS, SLIP_F_LOG_PROPOSAL, SLIP_F_LOG_VALID
+    SLIP_F_PREVOTES, SLIP_F_PRECOMMITS, SLIP_F_PROPOSALS, SLIP_F_VALIDS
 };
 
 /* The number in a field; 0 for a field or an index that there is not. */

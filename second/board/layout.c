@@ -25,7 +25,8 @@ int main(void)
     for (size_t i = 0; i < SLIP_KIOSKS; i++)
         k.powers[i] = (uint16_t)(60000 + i);
     for (size_t i = 0; i < SLIP_ROUNDS; i++)
-        k.log[i] = (struct slip_heard){(uint32_t)(4000000000u + i), (uint32_t)(4100000000u + i), (uint8_t)(20 + i), (uint8_t)(40 + i)};
+        k.prevotes[i] = (uint32_t)(4000000000u + i), k.precommits[i] = (uint32_t)(4100000000u + i), k.proposals[i] = (uint8_t)(20 + i),
+        k.valids[i] = (uint8_t)(40 + i);
 
     const uint64_t single[] = {SIZE_MAX - 1, SIZE_MAX - 2, SIZE_MAX - 3, SIZE_MAX - 4, UINT64_MAX - 5, UINT64_MAX - 6, UINT32_MAX - 7,
                                0, 1, 2, 3, 4, 5, 6, 7, 8, 9, 10};
@@ -35,10 +36,10 @@ int main(void)
     for (size_t i = 0; i < SLIP_KIOSKS; i++)
         check("power", i, slip_kiosk_number(k, SLIP_F_POWERS, i), 60000 + i);
     for (size_t i = 0; i < SLIP_ROUNDS; i++) {
-        check("prevotes", i, slip_kiosk_number(k, SLIP_F_LOG_PREVOTES, i), 4000000000u + i);
-        check("precommits", i, slip_kiosk_number(k, SLIP_F_LOG_PRECOMMITS, i), 4100000000u + i);
-        check("proposal", i, slip_kiosk_number(k, SLIP_F_LOG_PROPOSAL, i), 20 + i);
-        check("valid", i, slip_kiosk_number(k, SLIP_F_LOG_VALID, i), 40 + i);
+        check("prevotes", i, slip_kiosk_number(k, SLIP_F_PREVOTES, i), 4000000000u + i);
+        check("precommits", i, slip_kiosk_number(k, SLIP_F_PRECOMMITS, i), 4100000000u + i);
+        check("proposals", i, slip_kiosk_number(k, SLIP_F_PROPOSALS, i), 20 + i);
+        check("valids", i, slip_kiosk_number(k, SLIP_F_VALIDS, i), 40 + i);
     }
 
     struct slip_input input = {UINT64_MAX - 1, UINT64_MAX - 2, UINT32_MAX - 3, 4, 5, 6, 7, 8};
@@ -59,8 +60,8 @@ int main(void)
     check("first and last of the state", 0, reply.kiosk.kiosks, SIZE_MAX - 1);
     check("first and last of the state", 1, reply.kiosk.powers[31], 60031);
     check("first and last of the state", 2, reply.kiosk.valid_next, 10);
-    check("first and last of the state", 3, reply.kiosk.log[0].prevotes, 4000000000u);
-    check("first and last of the state", 4, reply.kiosk.log[15].valid, 55);
+    check("first and last of the state", 3, reply.kiosk.prevotes[0], 4000000000u);
+    check("first and last of the state", 4, reply.kiosk.valids[15], 55);
     if (wrong == 0)
         printf("%d numbers, all where the library has them\n", read_right);
     return wrong != 0;

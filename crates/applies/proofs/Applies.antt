@@ -18,8 +18,8 @@ use Rattle.rules.specs.declared.Stand.{Stand}
 use Rattle.rules.specs.declared.State.{State}
 use Rattle.rules.specs.declared.Step.{Step}
 use Rattle.rules.specs.declared.Step.the-variants.{Propose, Prevote, Precommit}
-use Rattle.rules.specs.State.{silence, is-propose, is-prevote, spoken, good}
-use Rattle.rules.specs.Log.{Desk, desk, proposal-place, good-sheets, prevote-power, prevote-power-for}
+use Rattle.rules.specs.State.{is-propose, is-prevote, spoken, good}
+use Rattle.rules.specs.Log.{Desk, desk, told, proposal-place, good-sheets, prevote-power, prevote-power-for}
 use Rattle.rules.specs.Doing.{current, step}
 use Rattle.rules.specs.Rules.{applies-28, applies-34, applies-36, applies-44, applies-47, backed-sheet, is-large}
 use Rattle.applies.specs.Later.{far-rule, later-rule}
@@ -221,7 +221,7 @@ module _ (s : State) (t : List ℕ) {stand : Stand} {h : Heard} {ps : List ℕ} 
             none-rest e = first-rest (desk s t) (awaited ∙ none) (not-36 zero) (sym nil ∙ e)
 
 -- line 28: a says whether all but its weighing holds, of the h that is heard of the current round
-module _ (s : State) (t : List ℕ) {h : Heard} (e : h ≡ getD (s .log) (s .stand .round .0) silence) {a : Bool}
+module _ (s : State) (t : List ℕ) {h : Heard} (e : h ≡ told (s .log) (s .stand .round .0)) {a : Bool}
     (asks : a ≡ (is-propose (s .stand .step) && spoken h && leb 1 (h .valid) && leb (h .valid) (s .stand .round .0))) where
   pub asks-not-28 : a ≡ false → applies-28 (desk s t) ≡ false
   unfolding applies-28

@@ -15,8 +15,8 @@ use Rattle.roll.proofs.Weighing.{power-none}
 use Rattle.rules.specs.declared.Heard.{Heard}
 use Rattle.rules.specs.declared.Rule.the-variants.{Nothing, Line49, Line55}
 use Rattle.rules.specs.declared.State.{State}
-use Rattle.rules.specs.State.{silence, silent, good}
-use Rattle.rules.specs.Log.{Desk, desk, proposal-place, good-sheets, precommit-power-for, message-power}
+use Rattle.rules.specs.State.{silent, good}
+use Rattle.rules.specs.Log.{Desk, desk, told, proposal-place, good-sheets, precommit-power-for, message-power}
 use Rattle.rules.specs.Doing.{current}
 use Rattle.rules.specs.Rules.{is-large, closing-sheet, closing-round, applies-49, calls, past-calling-round, applies-55}
 use Rattle.applies.specs.Later.{far-rule}
@@ -26,7 +26,7 @@ sheet-named true name = refl
 sheet-named false name = refl
 
 -- what the log says of a round, cheap to ask
-module _ (s : State) (t : List ℕ) (r : ℕ) {h : Heard} (e : h ≡ getD (s .log) r silence) where
+module _ (s : State) (t : List ℕ) (r : ℕ) {h : Heard} (e : h ≡ told (s .log) r) where
   -- without a good proposal it does not close
   pub bad-closes-not : good h ≡ false → not (eqb (closing-sheet (desk s t) r) 0) ≡ false
   unfolding closing-sheet good-sheets first-of

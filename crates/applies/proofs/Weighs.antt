@@ -18,8 +18,8 @@ use Rattle.roll.specs.Weighing.{large, power-below, power-of, total-of, propose
 use Rattle.roll.proofs.Weighing.{power-ext, large-not}
 use Rattle.rules.specs.declared.Heard.{Heard}
 use Rattle.rules.specs.declared.State.{State}
-use Rattle.rules.specs.State.{silence, spoken}
-use Rattle.rules.specs.Log.{Desk, desk, proposal-place, prevote-power, prevote-power-for, precommit-power, precommit-power-for, message-power}
+use Rattle.rules.specs.State.{spoken}
+use Rattle.rules.specs.Log.{Desk, desk, told, proposal-place, prevote-power, prevote-power-for, precommit-power, precommit-power-for, message-power}
 
 -- the seat whose turn it is is one that marks have room for
 pub turn-below : (roll : Roll) (r : ℕ) {turn : ℕ} → turn ≡ proposer roll r → 1 ≤ roll .kiosks → roll .kiosks ≤ 32 → turn < 32
@@ -31,7 +31,7 @@ unfolding prevote-power prevote-power-for
 few-for d r name total fails = large-not _ _ _ _ total refl fails
 
 -- p is what is weighed of round r, of which h is heard, by the powers ps of n kiosks
-module _ (s : State) (t : List ℕ) (r : ℕ) {h : Heard} (e : h ≡ getD (s .log) r silence) {ps : List ℕ} (w : ps ≡ s .roll .powers) {n : ℕ} (k : n ≡ s .roll .kiosks) {p : ℕ} where
+module _ (s : State) (t : List ℕ) (r : ℕ) {h : Heard} (e : h ≡ told (s .log) r) {ps : List ℕ} (w : ps ≡ s .roll .powers) {n : ℕ} (k : n ≡ s .roll .kiosks) {p : ℕ} where
   pub prevotes-weigh : p ≡ power-below ps (λ i. marked (h .prevotes) i) n → p ≡ prevote-power (desk s t) r
   unfolding prevote-power
   prevotes-weigh q = rw (q, w, k, e)
@@ -48,19 +48,19 @@ module _ (s : State) (t : List ℕ) (r : ℕ) {h : Heard} (e : h ≡ getD (s .lo
 -- q is whether some power of round r is large, as the code asks it
 module _ (s : State) (t : List ℕ) (r name : ℕ) {base total : ℕ} {q : Bool} (o : total ≡ total-of (s .roll)) where
   pub large-prevotes-for : base ≡ proposal-place r + 1
-      → q ≡ large total (power-of (s .roll) (λ i. marked (getD (s .log) r silence .prevotes) i && eqb (getD t (base + i) 0) name))
+      → q ≡ large total (power-of (s .roll) (λ i. marked (told (s .log) r .prevotes) i && eqb (getD t (base + i) 0) name))
       → q ≡ large (total-of (s .roll)) (prevote-power-for (desk s t) r name)
   unfolding prevote-power-for
   large-prevotes-for b l = rw (l, b, o)
 
   pub large-precommits-for : base ≡ proposal-place r + 33
-      → q ≡ large total (power-of (s .roll) (λ i. marked (getD (s .log) r silence .precommits) i && eqb (getD t (base + i) 0) name))
+      → q ≡ large total (power-of (s .roll) (λ i. marked (told (s .log) r .precommits) i && eqb (getD t (base + i) 0) name))
       → q ≡ large (total-of (s .roll)) (precommit-power-for (desk s t) r name)
   unfolding precommit-power-for
   large-precommits-for b l = rw (l, b, o)
 
 -- the senders of round r, by their marks: those of its votes, and of its proposal the seat whose turn it is
-module _ (s : State) (t : List ℕ) (r : ℕ) {h : Heard} (e : h ≡ getD (s .log) r silence) {marks turn p : ℕ} (at : turn ≡ proposer (s .roll) r) where
+module _ (s : State) (t : List ℕ) (r : ℕ) {h : Heard} (e : h ≡ told (s .log) r) {marks turn p : ℕ} (at : turn ≡ proposer (s .roll) r) where
   pub senders-weigh : marks ≡ (if spoken h then mark (bitOr (h .prevotes) (h .precommits)) turn else bitOr (h .prevotes) (h .precommits))
       → p ≡ power-of (s .roll) (λ i. marked marks i) → p ≡ message-power (desk s t) r
   unfolding message-power

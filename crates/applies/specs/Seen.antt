@@ -2,17 +2,16 @@
 use Prim.Native.Nat.{ℕ}
 use mathlib.Core.Path.{_≡_}
 use mathlib.Core.List.{List}
-use lib.ListN.{getD}
 use Rattle.roll.specs.Weighing.{total-of}
 use Rattle.rules.specs.declared.Heard.{Heard}
 use Rattle.rules.specs.declared.Stand.{Stand}
 use Rattle.rules.specs.declared.State.{State}
-use Rattle.rules.specs.State.{silence}
+use Rattle.rules.specs.Log.{told}
 
 -- where the kiosk of state s stands, what it has heard of its round, and its roll
 pub record Seen (s : State) (stand : Stand) (h : Heard) (powers : List ℕ) (kiosks total : ℕ) : Type 0 where
   pub stands : stand ≡ s .stand
-  pub hears : h ≡ getD (s .log) (s .stand .round .0) silence
+  pub hears : h ≡ told (s .log) (s .stand .round .0)
   pub weights : powers ≡ s .roll .powers
   pub seats : kiosks ≡ s .roll .kiosks
   pub whole : total ≡ total-of (s .roll)

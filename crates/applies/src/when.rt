@@ -1,6 +1,7 @@
 // When each rule applies, and which is the first. What is cheap to ask is asked before anything is weighed, and the names of votes are
 // read only where the votes under any name are large.
 use roll::Power;
+use roll::Roll;
 use roll::Round;
 use roll::weigh::is_large_named;
 use roll::weigh::weigh;
@@ -8,15 +9,15 @@ use roll::weigh::weigh_named;
 use rules::Heard;
 use rules::Rule;
 use rules::Stand;
-use rules::State;
-use rules::log::precommits_place;
-use rules::log::prevotes_place;
-use rules::log::proposed;
+use rules::Votes;
+use rules::places::heard;
+use rules::places::precommits_place;
+use rules::places::prevotes_place;
+use rules::places::proposed;
 use rules::tests::is_prevote;
 use rules::tests::is_propose;
 use rules::tests::is_rule;
 use rules::tests::is_running;
-use rules::tests::is_silent;
 use rules::tests::pick;
 use words::marks::either;
 use words::marks::with_mark;
@@ -30,8 +31,8 @@ ghost use lib.ListN.{length};
 ghost use Rattle.words.specs.Choice.{if_then_else_};
 ghost use Rattle.words.specs.Marks.{mark};
 ghost use Rattle.roll.specs.Weighing.{total-of};
-ghost use Rattle.rules.specs.State.{is-propose, is-prevote, spoken, good};
-ghost use Rattle.rules.specs.Log.{desk, table-length};
+ghost use Rattle.rules.specs.State.{log-of, state-of, is-propose, is-prevote, spoken, good};
+ghost use Rattle.rules.specs.Log.{desk, table-length, told};
 ghost use Rattle.rules.specs.Rules.{is-rule, backed-sheet, applies-44, applies-47, first-rule};
 ghost use Rattle.rules.specs.Ready.{Ready};
 ghost use Rattle.rules.specs.declared.Rule.the-variants.{Line47};
@@ -64,10 +65,10 @@ fn awaits_prevotes(stand: Stand) -> bool
 }
 
 // Whether a round's proposal is heard and good: no other can be backed, nor close a round.
-fn is_good(h: Heard) -> bool
-    ensures { λ b. ⌜ b ≡ good h ⌝ }
+fn is_good(proposal: u8) -> bool
+    ensures { λ b. ⌜ b ≡ eqb proposal 2 ⌝ }
 {
-    h.proposal == 2
+    proposal == 2
 }
 
 // Lines 34, 36 and 44, all but their weighing: whether the round's prevotes can make one of them apply.
@@ -75,7 +76,7 @@ fn heeds_prevotes(stand: Stand, h: Heard) -> bool
     ensures { λ r. ⌜ r ≡ (is-prevote (stand .step) || (not (is-propose (stand .step)) && not (stand .backed) && good h)) ⌝ }
 {
     let step = stand.step;
-    is_prevote(step) | (!is_propose(step) & !stand.backed & is_good(h))
+    is_prevote(step) | (!is_propose(step) & !stand.backed & is_good(h.proposal))
 }
 
 // Line 36: the sheet to back, 0 for none and where one is backed.
@@ -93,7 +94,7 @@ fn sheet_to_back(
     if stand.backed {
         return 0;
     }
-    if !is_good(h) {
+    if !is_good(h.proposal) {
         return 0;
     }
     let r = stand.round;
@@ -172,48 +173,55 @@ fn applies_47(stand: Stand, h: Heard, powers: &[u16; 32], kiosks: usize, total: 
 }
 
 // The senders of any message of a round, each marked once: those of its votes, and of its proposal the seat whose turn it is.
-fn senders(h: Heard, turn: usize) -> u32
+fn senders(prevotes: u32, precommits: u32, proposal: u8, turn: usize) -> u32
     requires { ⌜ turn < 32 ⌝ }
-    ensures { λ m. ⌜ m ≡ (if spoken h then mark (bitOr (h .prevotes) (h .precommits)) turn else bitOr (h .prevotes) (h .precommits)) ⌝ }
+    ensures { λ m. ⌜ m ≡ (if not (eqb proposal 0) then mark (bitOr prevotes precommits) turn else bitOr prevotes precommits) ⌝ }
 {
-    let votes = either(h.prevotes, h.precommits);
-    if h.proposal != 0 {
+    let votes = either(prevotes, precommits);
+    if proposal != 0 {
         return with_mark(votes, turn);
     }
     votes
 }
 
-// The rules from 34 on: those of the current round, and then 49 and 55, that look at the whole log. Of 49's rounds, from the lowest on, one
-// without a good proposal is passed before anything is weighed; of 55's, from the highest down to the next, a silent one.
-fn later_rule(state: State, table: &[u64], total: Power) -> Rule
-    requires { ⌜ Ready state (now table) × (total .0 ≡ total-of (state .roll)) ⌝ }
-    ensures { λ r. ⌜ r ≡ later-rule (desk state (now (table .entry))) ⌝ }
+// The rules from 34 on, with h heard of the current round: those of that round, and then 49 and 55, that look at the whole log. Of 49's
+// rounds, from the lowest on, one without a good proposal is passed before anything is weighed; of 55's, from the highest down to the
+// next, a silent one.
+fn later_rule<'a>(
+    votes: Votes,
+    roll: Roll,
+    h: Heard,
+    prevotes: &'a [u32; 16],
+    precommits: &'a [u32; 16],
+    proposals: &'a [u8; 16],
+    valids: &'a [u8; 16],
+    table: &[u64],
+    total: Power,
+) -> Rule
+    requires { ⌜ Ready (state-of roll votes (log-of (now prevotes) (now precommits) (now proposals) (now valids))) (now table) × (total .0 ≡ total-of roll) × (h ≡ told (log-of (now prevotes) (now precommits) (now proposals) (now valids)) (votes .stand .round .0)) ⌝ }
+    ensures { λ r. ⌜ r ≡ later-rule (desk (state-of roll votes (log-of (now (prevotes .entry)) (now (precommits .entry)) (now (proposals .entry)) (now (valids .entry)))) (now (table .entry))) ⌝ }
 {
-    let stand = state.stand;
+    let stand = votes.stand;
     let now = stand.round;
-    let here = now.0 as usize;
-    let h = state.log[here];
-    let roll = state.roll;
-    let powers = roll.powers;
     let kiosks = roll.kiosks;
-    let rule = prevote_rule(stand, h, &powers, kiosks, table, total);
+    let rule = prevote_rule(stand, h, &roll.powers, kiosks, table, total);
     if is_rule(rule) {
         return rule;
     }
-    if applies_47(stand, h, &powers, kiosks, total) {
+    if applies_47(stand, h, &roll.powers, kiosks, total) {
         return Rule::Line47;
     }
     let mut r: u8 = 0;
     while r < 16 {
         let at = r as usize;
-        if !is_good(state.log[at]) {
+        if !is_good(proposals[at]) {
             r += 1;
             continue;
         }
-        let marks = state.log[at].precommits;
+        let marks = precommits[at];
         let name = proposed(table, Round(r));
         let closes = is_large_named(
-            &powers,
+            &roll.powers,
             kiosks,
             marks,
             table,
@@ -229,13 +237,16 @@ fn later_rule(state: State, table: &[u64], total: Power) -> Rule
     let mut past: u8 = 16;
     while now.0 + 1 < past {
         let at = (past - 1) as usize;
-        if is_silent(state.log[at]) {
+        let first = prevotes[at];
+        let second = precommits[at];
+        let proposal = proposals[at];
+        if (proposal == 0) & (first == 0) & (second == 0) {
             past -= 1;
             continue;
         }
         let turn = roll.proposer(Round(past - 1));
-        let marks = senders(state.log[at], turn);
-        if weigh(&powers, kiosks, marks).is_some(total) {
+        let marks = senders(first, second, proposal, turn);
+        if weigh(&roll.powers, kiosks, marks).is_some(total) {
             return Rule::Line55(Round(past - 1));
         }
         past -= 1;
@@ -244,31 +255,37 @@ fn later_rule(state: State, table: &[u64], total: Power) -> Rule
 }
 
 // The first rule that applies.
-pub fn first_rule(state: State, table: &[u64], total: Power) -> Rule
-    requires { ⌜ Ready state (now table) × (total .0 ≡ total-of (state .roll)) ⌝ }
-    ensures { λ r. ⌜ r ≡ first-rule (desk state (now (table .entry))) ⌝ }
+pub fn first_rule<'a>(
+    votes: Votes,
+    roll: Roll,
+    prevotes: &'a [u32; 16],
+    precommits: &'a [u32; 16],
+    proposals: &'a [u8; 16],
+    valids: &'a [u8; 16],
+    table: &[u64],
+    total: Power,
+) -> Rule
+    requires { ⌜ Ready (state-of roll votes (log-of (now prevotes) (now precommits) (now proposals) (now valids))) (now table) × (total .0 ≡ total-of roll) ⌝ }
+    ensures { λ r. ⌜ r ≡ first-rule (desk (state-of roll votes (log-of (now (prevotes .entry)) (now (precommits .entry)) (now (proposals .entry)) (now (valids .entry)))) (now (table .entry))) ⌝ }
 {
-    let phase = state.phase;
+    let phase = votes.phase;
     if !is_running(phase) {
         return Rule::Nothing;
     }
-    let stand = state.stand;
+    let stand = votes.stand;
     let now = stand.round;
-    let here = now.0 as usize;
-    let h = state.log[here];
+    let h = heard(prevotes, precommits, proposals, valids, now);
     if applies_22(stand, h) {
         return Rule::Line22;
     }
     if proposed_before(stand, h) {
-        let powers = state.roll.powers;
-        let kiosks = state.roll.kiosks;
         let valid = h.valid - 1;
         let at = valid as usize;
-        let marks = state.log[at].prevotes;
+        let marks = prevotes[at];
         let name = proposed(table, now);
         if is_large_named(
-            &powers,
-            kiosks,
+            &roll.powers,
+            roll.kiosks,
             marks,
             table,
             prevotes_place(Round(valid)),
@@ -278,5 +295,15 @@ pub fn first_rule(state: State, table: &[u64], total: Power) -> Rule
             return Rule::Line28;
         }
     }
-    later_rule(state, table, total)
+    later_rule(
+        votes,
+        roll,
+        h,
+        prevotes,
+        precommits,
+        proposals,
+        valids,
+        table,
+        total,
+    )
 }

@@ -8,6 +8,10 @@ use lib.Dec.{ltb, leb}
 use native.Mathlib.Omega.{arith}
 use borrow.Author.Tests.{ltb-true, ltb-false, le-leb}
 use Rattle.words.proofs.Choice.{by-cases, by-test, and-left, and-right}
+use Rattle.roll.specs.declared.Roll.{Roll}
+use Rattle.rules.specs.declared.Input.{Input}
+use Rattle.rules.specs.declared.Votes.{Votes}
+use Rattle.rules.specs.State.{state-of, votes-of, log-of}
 use Rattle.kiosk.specs.declared.Reply.{Reply}
 use Rattle.kiosk.specs.declared.Made.{Made}
 use Rattle.answers.specs.Answers.{number-of}
@@ -37,12 +41,15 @@ unfolding board-open
 opens journal used table after r x s e =
     record { reply = rw (e, s .answer, s .sent, s .kiosk); table-is = s .table-is }
 
-pub says : (i : FlatInput) (f : FlatKiosk) (table journal table′ journal′ : List ℕ) (r : Reply) (x : FlatReply) → holds f ≡ true
-    → Kiosk.Says (put (input-of i) (kiosk-of f) table journal) r table′ journal′ → x ≡ flat-reply r
-    → Says (board-put i f table journal) x table′ journal′
+-- the log is lent as the twin has it, beside the roll, the votes and the input that are made of twins
+pub says : (i : FlatInput) (f : FlatKiosk) (table journal table′ journal′ : List ℕ) (j : Input) (roll : Roll) (votes : Votes) (r : Reply) (x : FlatReply)
+    → holds f ≡ true → j ≡ input-of i → roll ≡ kiosk-of f .state .roll → votes ≡ votes-of (kiosk-of f .state)
+    → Kiosk.Says (put j (record { state = state-of roll votes (log-of (f .prevotes) (f .precommits) (f .proposals) (f .valids)); used = f .used; last = f .last }) table journal) r table′ journal′
+    → x ≡ flat-reply r → Says (board-put i f table journal) x table′ journal′
 unfolding board-put
-says i f table journal table′ journal′ r x h s e =
-    rw h (record { reply = rw (e, s .answer, s .sent, s .kiosk); table-is = s .table-is; journal-is = s .journal-is })
+says i f table journal table′ journal′ j roll votes r x h a b c s e =
+    let t = rw (a, b, c) at s in
+    rw h (record { reply = rw (e, t .answer, t .sent, t .kiosk); table-is = t .table-is; journal-is = t .journal-is })
 
 pub says-1 : (i : FlatInput) (f : FlatKiosk) (table journal : List ℕ) (x : FlatReply) → holds f ≡ false → x ≡ impossible f
     → Says (board-put i f table journal) x table journal

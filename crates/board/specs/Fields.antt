@@ -5,8 +5,6 @@ use mathlib.Core.List.{List, [], _∷_}
 use lib.ListN.{getD}
 use lib.Dec.{ltb, eqb}
 use Rattle.words.specs.Choice.{if_then_else_}
-use Rattle.rules.specs.declared.Heard.{Heard}
-use Rattle.rules.specs.State.{silence}
 use Rattle.flat.specs.declared.FlatKiosk.{FlatKiosk}
 use Rattle.flat.specs.declared.FlatInput.{FlatInput}
 use Rattle.flat.specs.declared.FlatOutput.{FlatOutput}
@@ -33,19 +31,19 @@ plain-number f field =
     else if eqb field 17 then f .«valid_next»
     else 0
 
-unfoldable pub heard-number : Heard → ℕ → ℕ
-heard-number h field =
-    if eqb field 18 then h .prevotes
-    else if eqb field 19 then h .precommits
-    else if eqb field 20 then h .proposal
-    else if eqb field 21 then h .valid
+unfoldable pub log-number : FlatKiosk → ℕ → ℕ → ℕ
+log-number f field round =
+    if eqb field 18 then getD (f .prevotes) round 0
+    else if eqb field 19 then getD (f .precommits) round 0
+    else if eqb field 20 then getD (f .proposals) round 0
+    else if eqb field 21 then getD (f .valids) round 0
     else 0
 
 unfoldable pub kiosk-number : FlatKiosk → ℕ → ℕ → ℕ
 kiosk-number f field index =
     if eqb field 7 then (if ltb index 32 then getD (f .powers) index 0 else 0)
     else if ltb field 18 then plain-number f field
-    else if ltb index 16 then heard-number (getD (f .log) index silence) field
+    else if ltb index 16 then log-number f field index
     else 0
 
 unfoldable pub input-number : FlatInput → ℕ → ℕ

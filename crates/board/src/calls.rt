@@ -6,12 +6,15 @@ use answers::number_of;
 use flat::FlatInput;
 use flat::FlatKiosk;
 use flat::FlatReply;
+use flat::sent::flat_done;
 use flat::sent::flat_reply;
 use flat::sent::impossible;
 use flat::sent::input_of;
 use flat::state::holds;
-use flat::state::kiosk_of;
+use flat::state::roll_of;
+use flat::state::votes_of;
 use kiosk::calls::create;
+use kiosk::lent::put_lent;
 use opening::open;
 use printing::print_journal;
 use roll::Height;
@@ -58,8 +61,25 @@ pub extern "C" fn slip_put(
     if !holds(f) {
         return impossible(f);
     }
-    let k = kiosk_of(f);
-    flat_reply(k.put(input_of(i), table, journal))
+    let roll = roll_of(f);
+    let mut prevotes = f.prevotes;
+    let mut precommits = f.precommits;
+    let mut proposals = f.proposals;
+    let mut valids = f.valids;
+    let d = put_lent(
+        votes_of(f),
+        roll,
+        f.used,
+        f.last,
+        input_of(i),
+        &mut prevotes,
+        &mut precommits,
+        &mut proposals,
+        &mut valids,
+        table,
+        journal,
+    );
+    flat_done(roll, d, prevotes, precommits, proposals, valids)
 }
 
 // The last whole group, as a part of the lent journal.

@@ -3,10 +3,9 @@ use flat::FlatInput;
 use flat::FlatKiosk;
 use flat::FlatOutput;
 use flat::FlatReply;
-use rules::Heard;
-ghost use Prim.Native.Nat.{_≤_};
+ghost use Prim.Native.Nat.{_<_, _≤_};
 ghost use mathlib.Core.Path.{_≡_};
-ghost use Rattle.board.specs.Fields.{plain-number, heard-number, kiosk-number, input-number, output-from, layout-from, layout};
+ghost use Rattle.board.specs.Fields.{plain-number, log-number, kiosk-number, input-number, output-from, layout-from, layout};
 
 // A field that is one number, by its place in the struct.
 fn plain_number(f: FlatKiosk, field: usize) -> u64
@@ -34,15 +33,28 @@ fn plain_number(f: FlatKiosk, field: usize) -> u64
     }
 }
 
-// A field of a round of the log.
-fn heard_number(h: Heard, field: usize) -> u64
-    ensures { λ n. ⌜ n ≡ heard-number h field ⌝ }
+// A number of an array of the log.
+fn log_number(f: FlatKiosk, field: usize, round: usize) -> u64
+    requires { ⌜ round < 16 ⌝ }
+    ensures { λ n. ⌜ n ≡ log-number f field round ⌝ }
 {
     match field {
-        18 => h.prevotes as u64,
-        19 => h.precommits as u64,
-        20 => h.proposal as u64,
-        21 => h.valid as u64,
+        18 => {
+            let prevotes = f.prevotes;
+            prevotes[round] as u64
+        }
+        19 => {
+            let precommits = f.precommits;
+            precommits[round] as u64
+        }
+        20 => {
+            let proposals = f.proposals;
+            proposals[round] as u64
+        }
+        21 => {
+            let valids = f.valids;
+            valids[round] as u64
+        }
         _ => 0,
     }
 }
@@ -64,8 +76,7 @@ pub extern "C" fn slip_kiosk_number(f: FlatKiosk, field: usize, index: usize) ->
     if 16 <= index {
         return 0;
     }
-    let log = f.log;
-    heard_number(log[index], field)
+    log_number(f, field, index)
 }
 
 #[no_mangle]

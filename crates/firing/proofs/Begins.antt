@@ -1,111 +1,168 @@
--- The beginning of a call's work: after the input's act, what firing relies on holds, and what firing leaves is what the call leaves.
+-- The beginning of a call's work: after the input, what firing relies on holds, and what firing leaves is what the call leaves.
 -- Assumes nothing.
-use Prim.Native.Nat.{ℕ, suc, _+_, _≤_, _<_}
+use Prim.Native.Nat.{ℕ, _-_, _≤_, _<_}
 use mathlib.Core.Path.{_≡_, refl, ap, sym, _∙_, subst}
 use mathlib.Core.List.{List, []}
-use mathlib.Core.Bool.{Bool, true, false}
+use mathlib.Core.Bool.{Bool, true, false, _&&_}
 use native.Mathlib.Omega.{arith}
-use lib.ListN.{length, set, getD}
+use lib.Dec.{eqb, leb}
+use lib.ListN.{length, replicate}
 use Rattle.words.specs.Choice.{if_then_else_}
-use Rattle.roll.specs.Weighing.{total-of}
+use Rattle.roll.specs.declared.Roll.{Roll}
 use Rattle.rules.specs.declared.State.{State}
+use Rattle.rules.specs.declared.Votes.{Votes}
+use Rattle.rules.specs.declared.Log.{Log}
 use Rattle.rules.specs.declared.Input.{Input}
 use Rattle.rules.specs.declared.Output.{Output}
 use Rattle.rules.specs.declared.Sent.{Sent}
-use Rattle.rules.specs.State.{most-rounds}
-use Rattle.rules.specs.Log.{Desk, desk, table-length}
+use Rattle.rules.specs.State.{most-rounds, state-of}
+use Rattle.rules.specs.Log.{Desk, desk}
+use Rattle.rules.specs.Doing.{current}
 use Rattle.rules.specs.Work.{take-in, fire-all, most-firings, worked, work}
-use Rattle.rules.specs.Ready.{Ready, Readable, midway, packed, so-far}
+use Rattle.rules.specs.Ready.{Ready, Readable, midway, packed, so-far, no-output}
 use Rattle.rules.proofs.Sends.{sent-grows}
-use Rattle.rules.proofs.ByInput.{take-in-rounds}
 use Rattle.acts.specs.declared.Act.{Act}
 use Rattle.acts.specs.Acts.{done}
 use Rattle.firing.specs.declared.Trail.{Trail}
 use Rattle.firing.specs.declared.Worked.{Worked}
-use Rattle.firing.specs.Trails.{no-trail, undone, undone-to, Firing, Leaves}
-use Rattle.firing.proofs.Keeping.{Keeps, take-in-keeps}
-use Rattle.firing.proofs.Turns.{sent-after, table-after, trail-after, act-state, Handed, handed, table-long}
+use Rattle.firing.specs.Trails.{trail-of, undone, undone-to, message, own-message, Puts, Firing, Leaves}
+use Rattle.firing.proofs.Keeping.{take-in-keeps}
+use Rattle.firing.proofs.Turns.{also, sent-after, Handed, handed, moved, message-is}
 
--- the first write is the first of the trail
-first : (writes : Bool) (place old n : ℕ) →
-    (if writes then record { count = no-trail .count + 1; places = set (no-trail .places) (no-trail .count) place; names = set (no-trail .names) (no-trail .count) old } else no-trail) .count ≤ n + 1
-first true place old n = omega arith
-first false place old n = omega arith
+-- as a call begins nothing is written, and there is room for outputs
+abbrev no-trail : Trail
+no-trail = trail-of 0 (replicate 7 0) (replicate 7 0)
+
+pub no-outputs : {s : Sent} → s ≡ packed [] → s .count < 6
+no-outputs e = rw e (omega arith)
+
+-- where one write at most was put
+at-most-one : (b : Bool) → (if b then 1 else 0) ≤ 1
+at-most-one true = omega arith
+at-most-one false = omega arith
+
+-- ## After the input, whatever it was
 
 module _
     (i : Input)
-    (s : State)
-    (t : List ℕ)
-    (a : Act)
-    (ready : Ready s t)
+    (roll : Roll)
+    (votes votes′ : Votes)
+    {l l′ : Log}
+    {t t′ : List ℕ}
+    {trail : Trail}
+    {sent₀ sent : Sent}
+    (sends : Bool)
+    (o : Output)
+    (f : Desk → Desk)
+    (most : ℕ)
+    (ready : Ready (state-of roll votes l) t)
     (readable : Readable i)
-    (few : length (work i s t .sent) ≤ 6)
-    (act : (t : List ℕ) (os : List Output) → done a (midway s t os) ≡ take-in i (midway s t os)) where
-  worked-is : work i s t ≡ fire-all (most-firings most-rounds) (i .offer) (take-in i (desk s t))
-  unfolding worked
+    (few : length (work i (state-of roll votes l) t .sent) ≤ 6)
+    (empty : sent₀ ≡ packed [])
+    (p : Puts f most l t no-trail l′ t′ trail)
+    (one : most ≤ 1)
+    (taken : midway (state-of roll votes′ l′) t′ (also sends o []) ≡ take-in i (desk (state-of roll votes l) t))
+    (next : sent ≡ sent-after sends o sent₀) where
+  u : Desk
+  u = take-in i (desk (state-of roll votes l) t)
+
+  worked-is : work i (state-of roll votes l) t ≡ fire-all (most-firings most-rounds) (i .offer) u
+  unfolding worked u
   worked-is = refl
 
-  few-after : length (fire-all (most-firings most-rounds) (i .offer) (take-in i (desk s t)) .sent) ≤ 6
+  few-after : length (fire-all (most-firings most-rounds) (i .offer) u .sent) ≤ 6
   few-after = subst (λ (x : Desk). length (x .sent) ≤ 6) worked-is few
 
-  hands : Handed s t a (packed []) no-trail (take-in i (desk s t))
+  hands : Handed (state-of roll votes′ l′) t′ sent u
+  unfolding u
   hands =
-      handed s t [] a (packed []) no-trail (take-in i (desk s t)) (act t []) refl (omega arith)
-      (omega (arith, sent-grows (most-firings most-rounds) (i .offer) (take-in i (desk s t)), few-after)) (λ w. omega arith) (refl, refl)
+      rw next
+      (handed sends o (state-of roll votes′ l′) t′ sent₀ [] u taken empty (omega arith)
+      (omega (arith, sent-grows (most-firings most-rounds) (i .offer) u, few-after)))
 
-  keeps : Keeps (desk s t) (take-in i (desk s t))
-  keeps = take-in-keeps i (desk s t) (readable .kind) (ready .round) (readable .next)
+  keeps : current u < 16
+  unfolding u
+  keeps = take-in-keeps i (desk (state-of roll votes l) t) (readable .kind) (ready .round) (readable .next)
 
-  state-is : a .state ≡ take-in i (desk s t) .state
-  state-is = act-state s t [] a (take-in i (desk s t)) (act t [])
+  round-is : votes′ .stand .round .0 ≡ current u
+  unfolding u
+  round-is = ap (λ (x : Desk). current x) taken
 
-  roll-is : a .state .roll ≡ s .roll
-  roll-is = ap (λ (x : State). x .roll) state-is ∙ keeps .roll
-
-  pub total-kept : total-of (a .state .roll) ≡ total-of (s .roll)
-  total-kept = ap total-of roll-is
-
-  pub fires : Firing (most-firings most-rounds) (i .offer) (a .state) (sent-after a (packed [])) (trail-after a no-trail t) (table-after a t)
+  pub fires : Firing (most-firings most-rounds) (i .offer) (state-of roll votes′ l′) sent trail t′
   fires = record {
     ready = record {
-      some-kiosks = rw roll-is (ready .some-kiosks);
-      few-kiosks = rw roll-is (ready .few-kiosks);
-      own = rw roll-is (ready .own);
-      round = rw state-is (keeps .round);
-      places = table-long (a .writes) (a .place) (a .name) table-length t (ready .places);
+      some-kiosks = ready .some-kiosks;
+      few-kiosks = ready .few-kiosks;
+      own = ready .own;
+      round = rw round-is keeps;
+      places = p .places ∙ ready .places;
     };
     packs = hands .packs;
     few = subst (λ (x : Desk). length (fire-all (most-firings most-rounds) (i .offer) x .sent) ≤ 6) (sym (hands .desk-is)) few-after;
-    short = first (a .writes) (a .place) (getD t (a .place) 0) (length (so-far (sent-after a (packed []))));
-    long = hands .long-trail;
+    short = omega (arith, p .count, one);
+    long = p .long;
   }
 
-  pub leaves-so : (w : Worked) (table : List ℕ) →
-      Leaves (fire-all (most-firings most-rounds) (i .offer) (midway (a .state) (table-after a t) (so-far (sent-after a (packed [])))))
-      (undone (trail-after a no-trail t) (table-after a t)) w table →
-      Leaves (work i s t) t w table
+  pub leaves-all : {w : Worked} {s : State} {table : List ℕ} →
+      Leaves (fire-all (most-firings most-rounds) (i .offer) (midway (state-of roll votes′ l′) t′ (so-far sent))) (undone trail t′) s w table →
+      Leaves (work i (state-of roll votes l) t) t s w table
   unfolding undone-to
-  leaves-so w table l =
+  leaves-all r =
       let same = ap (fire-all (most-firings most-rounds) (i .offer)) (hands .desk-is) ∙ sym worked-is in
       record {
-        state = l .state ∙ ap (λ (x : Desk). x .state) same;
-        sent = l .sent ∙ ap (λ (x : Desk). packed (x .sent)) same;
-        names = l .names ∙ ap (λ (x : Desk). x .table) same;
-        back = l .back ∙ hands .way-back;
-        short = l .short;
+        state = r .state ∙ ap (λ (x : Desk). x .state) same;
+        sent = r .sent ∙ ap (λ (x : Desk). packed (x .sent)) same;
+        names = r .names ∙ ap (λ (x : Desk). x .table) same;
+        back = r .back ∙ p .back;
+        short = r .short;
       }
 
-  -- the same, as the code hands it on
-  pub fires-so : {sent₀ sent : Sent} {trail₀ trail : Trail} {table : List ℕ} → sent₀ ≡ packed [] → trail₀ ≡ no-trail →
-      sent ≡ sent-after a sent₀ → trail ≡ trail-after a trail₀ t → table ≡ table-after a t →
-      Firing (most-firings most-rounds) (i .offer) (a .state) sent trail table
-  fires-so p q x y z = rw (x, y, z, p, q) fires
+-- ## The two kinds of input
 
-  pub total-next : {total : ℕ} → total ≡ total-of (s .roll) → total ≡ total-of (a .state .roll)
-  total-next h = h ∙ sym total-kept
+module _
+    (i : Input)
+    (roll : Roll)
+    (votes : Votes)
+    {l l′ : Log}
+    {t t′ : List ℕ}
+    {trail : Trail}
+    {sent₀ : Sent}
+    (ready : Ready (state-of roll votes l) t)
+    (readable : Readable i)
+    (few : length (work i (state-of roll votes l) t .sent) ≤ 6)
+    (empty : sent₀ ≡ packed []) where
+  -- a message
+  module _
+      (mid : (leb 2 (i .kind) && leb (i .kind) 4) ≡ true)
+      (p : Puts (message (i .kind - 1) (i .round .0) (i .sender) (eqb (i .verdict) 1) (i .valid) (i .name)) 1 l t no-trail l′ t′ trail) where
+    heard : midway (state-of roll votes l′) t′ [] ≡ take-in i (desk (state-of roll votes l) t)
+    heard = p .desk roll votes [] ∙ message-is i (desk (state-of roll votes l) t) mid
 
-  pub leaves-all : {sent₀ sent : Sent} {trail₀ trail : Trail} {table after : List ℕ} {w : Worked} → sent₀ ≡ packed [] → trail₀ ≡ no-trail →
-      sent ≡ sent-after a sent₀ → trail ≡ trail-after a trail₀ t → table ≡ table-after a t →
-      Leaves (fire-all (most-firings most-rounds) (i .offer) (midway (a .state) table (so-far sent))) (undone trail table) w after →
-      Leaves (work i s t) t w after
-  leaves-all {after = after} {w = w} p q x y z l = leaves-so w after (rw (x, y, z, p, q) at l)
+    pub message-fires : Firing (most-firings most-rounds) (i .offer) (state-of roll votes l′) sent₀ trail t′
+    message-fires = fires i roll votes votes false no-output _ 1 ready readable few empty p (omega arith) heard refl
+
+    pub message-leaves : {w : Worked} {s : State} {table : List ℕ} →
+        Leaves (fire-all (most-firings most-rounds) (i .offer) (midway (state-of roll votes l′) t′ (so-far sent₀))) (undone trail t′) s w table →
+        Leaves (work i (state-of roll votes l) t) t s w table
+    message-leaves r = leaves-all i roll votes votes false no-output _ 1 ready readable few empty p (omega arith) heard refl r
+
+  -- start, or a timer
+  module _
+      (a : Act)
+      {sent : Sent}
+      (act : (l : Log) (t : List ℕ) (os : List Output) → done a (midway (state-of roll votes l) t os) ≡ take-in i (midway (state-of roll votes l) t os))
+      (p : Puts (own-message (a .sends && leb (a .output .kind) 3) (roll .own) (a .output)) (if a .sends && leb (a .output .kind) 3 then 1 else 0) l t no-trail l′ t′ trail)
+      (next : sent ≡ sent-after (a .sends) (a .output) sent₀) where
+    begun : midway (state-of roll (a .votes) l′) t′ (also (a .sends) (a .output) []) ≡ take-in i (desk (state-of roll votes l) t)
+    begun = moved (a .sends) (a .output) roll (a .votes) [] p ∙ act l t []
+
+    one : (if a .sends && leb (a .output .kind) 3 then 1 else 0) ≤ 1
+    one = at-most-one (a .sends && leb (a .output .kind) 3)
+
+    pub begin-fires : Firing (most-firings most-rounds) (i .offer) (state-of roll (a .votes) l′) sent trail t′
+    begin-fires = fires i roll votes (a .votes) (a .sends) (a .output) _ _ ready readable few empty p one begun next
+
+    pub begin-leaves : {w : Worked} {s : State} {table : List ℕ} →
+        Leaves (fire-all (most-firings most-rounds) (i .offer) (midway (state-of roll (a .votes) l′) t′ (so-far sent))) (undone trail t′) s w table →
+        Leaves (work i (state-of roll votes l) t) t s w table
+    begin-leaves r = leaves-all i roll votes (a .votes) (a .sends) (a .output) _ _ ready readable few empty p one begun next r

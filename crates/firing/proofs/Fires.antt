@@ -1,108 +1,210 @@
 -- The firing recursion, as its code meets it: what each call in a turn asks, and what each return leaves. Assumes nothing.
-use Prim.Native.Nat.{ℕ, _+_, _-_, _≤_, _<_, pred}
-use mathlib.Core.Path.{_≡_, refl, ap, sym, _∙_}
+use Prim.Native.Nat.{ℕ, _+_, _-_, _≤_, _<_}
+use mathlib.Core.Path.{_≡_, refl, ap, sym, _∙_, subst}
 use mathlib.Core.List.{List}
-use mathlib.Core.Bool.{Bool, true, false, not}
+use mathlib.Core.Bool.{Bool, true, false, not, _&&_}
 use native.Mathlib.Omega.{arith}
+use lib.Dec.{leb}
 use lib.ListN.{length}
-use borrow.Author.Tests.{not-true, not-false, leb-true}
-use Rattle.words.proofs.Choice.{highest-passes}
-use Rattle.roll.specs.Weighing.{total-of}
+use borrow.Author.Tests.{not-true, not-false, ltb-true, leb-true}
+use Rattle.words.specs.Choice.{if_then_else_}
+use Rattle.words.proofs.Choice.{highest-passes, and-left}
+use Rattle.roll.specs.declared.Roll.{Roll}
 use Rattle.rules.specs.declared.State.{State}
+use Rattle.rules.specs.declared.Votes.{Votes}
+use Rattle.rules.specs.declared.Log.{Log}
 use Rattle.rules.specs.declared.Rule.{Rule}
 use Rattle.rules.specs.declared.Output.{Output}
 use Rattle.rules.specs.declared.Sent.{Sent}
+use Rattle.rules.specs.State.{state-of}
 use Rattle.rules.specs.Log.{Desk, desk}
-use Rattle.rules.specs.Rules.{first-rule, is-rule, fire, calls, past-calling-round, applies-55}
+use Rattle.rules.specs.Doing.{current}
+use Rattle.rules.specs.Rules.{first-rule, is-rule, fire, closing-round, applies-49, calls, past-calling-round, applies-55}
 use Rattle.rules.specs.Work.{fire-all}
-use Rattle.rules.specs.Ready.{midway, so-far}
+use Rattle.rules.specs.Ready.{Ready, midway, packed, so-far}
 use Rattle.rules.proofs.ByRule.{by-rule}
 use Rattle.rules.proofs.Sends.{sent-grows}
 use Rattle.acts.specs.declared.Act.{Act}
 use Rattle.acts.specs.Acts.{done, rule-fits}
 use Rattle.firing.specs.declared.Trail.{Trail}
 use Rattle.firing.specs.declared.Worked.{Worked}
-use Rattle.firing.specs.Trails.{undone, Firing, Leaves}
-use Rattle.firing.proofs.Turns.{first-rule-sent, none-left, none-fires, sent-after, table-after, trail-after, sends-there, writes-there, total-kept, fires-on, leaves-so}
+use Rattle.firing.specs.Trails.{undone, own-message, Puts, Firing, Leaves}
+use Rattle.firing.proofs.Keeping.{fire-keeps}
+use Rattle.firing.proofs.Turns.{first-rule-sent, none-left, none-fires, one-fires, also, sent-after, sends-less, Handed, handed, short, done-sent, moved}
 
--- the first rule goes to a round that there is
+-- the first rule names a round that there is, if any
 pub first-fits : (s : State) (t : List ℕ) → rule-fits (first-rule (desk s t))
-unfolding applies-55 past-calling-round
+unfolding applies-49 applies-55 past-calling-round
 first-fits s t =
     let d = desk s t in
     by-rule rule-fits d (λ e. tt) (λ run quiet n49 n55. tt) (λ run e. tt) (λ run e. tt) (λ run e. tt) (λ run e. tt) (λ run e. tt) (λ run e. tt)
-    (λ run quiet e. tt)
+    (λ run quiet e. ltb-true (closing-round d) (d .rounds) e)
     (λ run quiet n49 e. highest-passes (d .rounds) (λ q. calls d q) (leb-true 1 (past-calling-round d) e) .1)
 
--- what the code's test says of the rule
-pub rule-on : (rule : Rule) {b : Bool} → b ≡ is-rule rule → not b ≡ false → is-rule rule ≡ true
-rule-on rule e n = sym e ∙ not-false _ n
+-- the own seat is one of 32
+pub own-seat : (s : State) (t : List ℕ) → Ready s t → s .roll .own < 32
+own-seat s t ready = omega (arith, ready .own, ready .few-kiosks)
 
-pub rule-off : (rule : Rule) {b : Bool} → b ≡ is-rule rule → not b ≡ true → is-rule rule ≡ false
-rule-off rule e n = sym e ∙ not-true _ n
+-- a message is of a round that there is
+pub says-there : (a : Act) → (a .sends ≡ true → a .output .round .0 < 16) → (a .sends && leb (a .output .kind) 3) ≡ true → a .output .round .0 < 16
+says-there a there w = there (and-left (a .sends) (leb (a .output .kind) 3) w)
 
 -- ## Where firing ends
 
-stays : (left offer : ℕ) (s : State) (sent : Sent) (trail : Trail) (t : List ℕ) → Firing left offer s sent trail t →
-    fire-all left offer (midway s t (so-far sent)) ≡ midway s t (so-far sent) →
-    Leaves (fire-all left offer (midway s t (so-far sent))) (undone trail t) (record { state = s; sent = sent; trail = trail }) t
-stays left offer s sent trail t f e =
-    rw e
-    (record {
-      state = refl;
-      sent = f .packs;
-      names = refl;
-      back = refl;
-      short = omega (arith, f .short, f .few, sent-grows left offer (midway s t (so-far sent)));
-    })
+module _ (left offer : ℕ) (roll : Roll) (votes : Votes) (l : Log) (sent : Sent) (trail : Trail) (t : List ℕ)
+    (f : Firing left offer (state-of roll votes l) sent trail t) where
+  abbrev here : Desk
+  here = midway (state-of roll votes l) t (so-far sent)
 
-pub ends-none-left : (left offer : ℕ) (s : State) (sent : Sent) (trail : Trail) (t : List ℕ) → Firing left offer s sent trail t → left ≡ 0 →
-    Leaves (fire-all left offer (midway s t (so-far sent))) (undone trail t) (record { state = s; sent = sent; trail = trail }) t
-ends-none-left left offer s sent trail t f e = stays left offer s sent trail t f (none-left left offer (midway s t (so-far sent)) e)
+  stays : fire-all left offer here ≡ here → Leaves (fire-all left offer here) (undone trail t) (state-of roll votes l) (record { votes = votes; sent = sent; trail = trail }) t
+  stays e =
+      rw e
+      (record {
+        state = refl;
+        sent = f .packs;
+        names = refl;
+        back = refl;
+        short = omega (arith, f .short, f .few, sent-grows left offer here);
+      })
 
-pub ends-no-rule : (left offer : ℕ) (s : State) (sent : Sent) (trail : Trail) (t : List ℕ) (rule : Rule) {b : Bool} → Firing left offer s sent trail t →
-    rule ≡ first-rule (desk s t) → b ≡ is-rule rule → not b ≡ true →
-    Leaves (fire-all left offer (midway s t (so-far sent))) (undone trail t) (record { state = s; sent = sent; trail = trail }) t
-ends-no-rule left offer s sent trail t rule f which e n =
-    let off : is-rule (first-rule (midway s t (so-far sent))) ≡ false = ap is-rule (first-rule-sent s t (so-far sent) ∙ sym which) ∙ rule-off rule e n in
-    stays left offer s sent trail t f (none-fires left offer (midway s t (so-far sent)) off)
+  ends-none-left : left ≡ 0 → Leaves (fire-all left offer here) (undone trail t) (state-of roll votes l) (record { votes = votes; sent = sent; trail = trail }) t
+  ends-none-left e = stays (none-left left offer here e)
 
--- ## Where it goes on
+  pub ends-no-rule : (rule : Rule) {b : Bool} → rule ≡ first-rule (desk (state-of roll votes l) t) → b ≡ is-rule rule → not b ≡ true →
+      Leaves (fire-all left offer here) (undone trail t) (state-of roll votes l) (record { votes = votes; sent = sent; trail = trail }) t
+  ends-no-rule rule which e n =
+      stays (none-fires left offer here (ap is-rule (first-rule-sent (state-of roll votes l) t (so-far sent) ∙ sym which) ∙ sym e ∙ not-true _ n))
+
+-- ## A firing
+
+again : (left : ℕ) → (left ≡ 0 → ⊥) → left ≡ left - 1 + 1
+again left more = omega (arith, more)
+
+-- a test that the code found to hold
+pub applies : {x b : Bool} → b ≡ x → not b ≡ false → x ≡ true
+applies e n = sym e ∙ not-false _ n
 
 module _
     (left offer : ℕ)
-    (s : State)
+    (roll : Roll)
+    (votes : Votes)
+    (l : Log)
     (sent : Sent)
     (trail : Trail)
     (t : List ℕ)
     (rule : Rule)
     (a : Act)
-    {b : Bool}
-    (f : Firing left offer s sent trail t)
-    (some : left ≡ 0 → ⊥)
-    (which : rule ≡ first-rule (desk s t))
-    (e : b ≡ is-rule rule)
-    (n : not b ≡ false)
-    (act : (os : List Output) → done a (midway s t os) ≡ fire rule offer (midway s t os))
-    (with-it : a .writes ≡ true → a .sends ≡ true) where
-  on : is-rule rule ≡ true
-  on = rule-on rule e n
+    (f : Firing (left + 1) offer (state-of roll votes l) sent trail t)
+    (which : rule ≡ first-rule (desk (state-of roll votes l) t))
+    (some : is-rule rule ≡ true)
+    (act : (os : List Output) → done a (midway (state-of roll votes l) t os) ≡ fire rule offer (midway (state-of roll votes l) t os)) where
+  d : Desk
+  d = midway (state-of roll votes l) t (so-far sent)
 
+  u : Desk
+  unfolding d
+  u = fire (first-rule d) offer d
+
+  rule-is : rule ≡ first-rule d
+  unfolding d
+  rule-is = which ∙ sym (first-rule-sent (state-of roll votes l) t (so-far sent))
+
+  on : is-rule (first-rule d) ≡ true
+  on = ap is-rule (sym rule-is) ∙ some
+
+  turn : fire-all (left + 1) offer d ≡ fire-all left offer u
+  unfolding u
+  turn = one-fires left offer d on
+
+  done-is : done a (midway (state-of roll votes l) t (so-far sent)) ≡ u
+  unfolding d u
+  done-is = act (so-far sent) ∙ ap (λ (r : Rule). fire r offer (midway (state-of roll votes l) t (so-far sent))) rule-is
+
+  few-after : length (fire-all left offer u .sent) ≤ 6
+  unfolding d
+  few-after = subst (λ (x : Desk). length (x .sent) ≤ 6) turn (f .few)
+
+  few : length (u .sent) ≤ 6
+  few = omega (arith, sent-grows left offer u, few-after)
+
+  few-before : length (so-far sent) ≤ 6
+  few-before = omega (arith, sent-grows (left + 1) offer (midway (state-of roll votes l) t (so-far sent)), f .few)
+
+  count-is : sent .count ≡ length (so-far sent)
+  count-is = ap (λ (x : Sent). x .count) (f .packs)
+
+  -- there is a place for the output, and one for its message
   pub room-to-send : a .sends ≡ true → sent .count < 6
-  room-to-send = sends-there left offer s sent trail t rule a f some which on act with-it
+  room-to-send on =
+      let told = done-sent (a .sends) (a .output) (midway (state-of roll (a .votes) l) t (so-far sent)) ∙ ap (λ (x : Desk). x .sent) done-is in
+      rw count-is (sends-less (a .sends) (a .output) (so-far sent) (u .sent) told few on)
 
-  pub room-to-write : a .writes ≡ true → trail .count < 7
-  room-to-write = writes-there left offer s sent trail t rule a f some which on act with-it
+  pub room-to-say : (a .sends && leb (a .output .kind) 3) ≡ true → trail .count < 7
+  room-to-say w = omega (arith, room-to-send (and-left (a .sends) (leb (a .output .kind) 3) w), count-is, f .short)
 
-  pub total-next : {total : ℕ} → total ≡ total-of (s .roll) → total ≡ total-of (a .state .roll)
-  total-next h = h ∙ sym (total-kept left offer s sent trail t rule a f some which on act with-it)
+  module _ {l′ : Log} {t′ : List ℕ} {trail′ : Trail} {sent′ : Sent}
+      (p : Puts (own-message (a .sends && leb (a .output .kind) 3) (roll .own) (a .output)) (if a .sends && leb (a .output .kind) 3 then 1 else 0) l t trail l′ t′ trail′)
+      (next : sent′ ≡ sent-after (a .sends) (a .output) sent) where
+    moves : midway (state-of roll (a .votes) l′) t′ (also (a .sends) (a .output) (so-far sent)) ≡ u
+    moves = moved (a .sends) (a .output) roll (a .votes) (so-far sent) p ∙ done-is
 
-  pub firing-next : {sent′ : Sent} {trail′ : Trail} {t′ : List ℕ} → sent′ ≡ sent-after a sent → trail′ ≡ trail-after a trail t → t′ ≡ table-after a t →
-      Firing (left - 1) offer (a .state) sent′ trail′ t′
-  firing-next x y z = rw (x, y, z) (fires-on left offer s sent trail t rule a f some which on act with-it)
+    hands : Handed (state-of roll (a .votes) l′) t′ sent′ u
+    hands = rw next (handed (a .sends) (a .output) (state-of roll (a .votes) l′) t′ sent (so-far sent) u moves (f .packs) few-before few)
 
-  pub leaves-next : {sent′ : Sent} {trail′ : Trail} {t′ table : List ℕ} {w : Worked} → sent′ ≡ sent-after a sent → trail′ ≡ trail-after a trail t → t′ ≡ table-after a t →
-      Leaves (fire-all (left - 1) offer (midway (a .state) t′ (so-far sent′))) (undone trail′ t′) w table →
-      Leaves (fire-all left offer (midway s t (so-far sent))) (undone trail t) w table
-  leaves-next {table = table} {w = w} x y z l =
-      leaves-so left offer s sent trail t rule a f some which on act with-it w table (rw (x, y, z) at l)
+    round-is : a .votes .stand .round .0 ≡ current u
+    round-is = ap (λ (x : Desk). current x) moves
+
+    keeps : current u < 16
+    unfolding d u
+    keeps = fire-keeps offer d (f .ready .round) on
+
+    pub firing-next : Firing left offer (state-of roll (a .votes) l′) sent′ trail′ t′
+    firing-next = record {
+      ready = record {
+        some-kiosks = f .ready .some-kiosks;
+        few-kiosks = f .ready .few-kiosks;
+        own = f .ready .own;
+        round = rw round-is keeps;
+        places = p .places ∙ f .ready .places;
+      };
+      packs = hands .packs;
+      few = subst (λ (x : Desk). length (fire-all left offer x .sent) ≤ 6) (sym (hands .desk-is)) few-after;
+      short = subst (λ (x : List Output). trail′ .count ≤ length x + 1) (ap (λ (x : Desk). x .sent) moves ∙ sym (hands .told))
+          (short (a .sends) (leb (a .output .kind) 3) (a .output) (so-far sent) (trail .count) (trail′ .count) (p .count) (f .short));
+      long = p .long;
+    }
+
+    -- what the rest leaves is what all of it leaves
+    leaves-next : {w : Worked} {s : State} {table : List ℕ} →
+        Leaves (fire-all left offer (midway (state-of roll (a .votes) l′) t′ (so-far sent′))) (undone trail′ t′) s w table →
+        Leaves (fire-all (left + 1) offer (midway (state-of roll votes l) t (so-far sent))) (undone trail t) s w table
+    unfolding d
+    leaves-next r =
+        let same = ap (fire-all left offer) (hands .desk-is) ∙ sym turn in
+        record {
+          state = r .state ∙ ap (λ (x : Desk). x .state) same;
+          sent = r .sent ∙ ap (λ (x : Desk). packed (x .sent)) same;
+          names = r .names ∙ ap (λ (x : Desk). x .table) same;
+          back = r .back ∙ p .back;
+          short = r .short;
+        }
+
+    -- it was the last, or no rule applies after it
+    pub ends-last : left ≡ 0 →
+        Leaves (fire-all (left + 1) offer (midway (state-of roll votes l) t (so-far sent))) (undone trail t) (state-of roll (a .votes) l′) (record { votes = a .votes; sent = sent′; trail = trail′ }) t′
+    ends-last e = leaves-next (ends-none-left left offer roll (a .votes) l′ sent′ trail′ t′ firing-next e)
+
+    pub ends-quiet : (later : Rule) {b : Bool} → later ≡ first-rule (desk (state-of roll (a .votes) l′) t′) → b ≡ is-rule later → not b ≡ true →
+        Leaves (fire-all (left + 1) offer (midway (state-of roll votes l) t (so-far sent))) (undone trail t) (state-of roll (a .votes) l′) (record { votes = a .votes; sent = sent′; trail = trail′ }) t′
+    ends-quiet later which-later e n = leaves-next (ends-no-rule left offer roll (a .votes) l′ sent′ trail′ t′ firing-next later which-later e n)
+
+    -- or the next one fires
+    pub fires-on : (left ≡ 0 → ⊥) → Firing (left - 1 + 1) offer (state-of roll (a .votes) l′) sent′ trail′ t′
+    fires-on more = subst (λ (n : ℕ). Firing n offer (state-of roll (a .votes) l′) sent′ trail′ t′) (again left more) firing-next
+
+    pub leaves-on : (left ≡ 0 → ⊥) → {w : Worked} {s : State} {table : List ℕ} →
+        Leaves (fire-all (left - 1 + 1) offer (midway (state-of roll (a .votes) l′) t′ (so-far sent′))) (undone trail′ t′) s w table →
+        Leaves (fire-all (left + 1) offer (midway (state-of roll votes l) t (so-far sent))) (undone trail t) s w table
+    leaves-on more {w = w} {s = s} {table = table} r =
+        leaves-next
+        (subst (λ (n : ℕ). Leaves (fire-all n offer (midway (state-of roll (a .votes) l′) t′ (so-far sent′))) (undone trail′ t′) s w table) (sym (again left more)) r)

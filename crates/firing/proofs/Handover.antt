@@ -1,16 +1,15 @@
 -- What the code of a call hands on: outputs in six places, and the trail back to the table that the call began with. Assumes nothing.
 use Prim.Native.Nat.{ℕ, zero, suc, _+_, _-_, _≤_, _<_}
 use mathlib.Core.Path.{_≡_, refl, ap, ap₂, sym, _∙_}
-use mathlib.Core.List.{List, [], _∷_, _++_, append-assoc}
+use mathlib.Core.List.{List, [], _∷_, _++_}
 use native.Mathlib.Numerals.{add-one, sub-one}
 use native.Mathlib.Omega.{arith}
-use lib.ListN.{length, take, drop, set, getD, replicate, length-append}
+use lib.ListN.{length, take, set, getD, replicate, length-append}
 use lib.Seq.{set-set, set-getD, getD-set-same, getD-set-other, take-take, take-append-seam}
 use Rattle.rules.specs.declared.Output.{Output}
 use Rattle.rules.specs.declared.Sent.{Sent}
 use Rattle.rules.specs.Ready.{no-output, six, packed, so-far}
-use Rattle.firing.specs.declared.Trail.{Trail}
-use Rattle.firing.specs.Trails.{undone-to, undone}
+use Rattle.firing.specs.Trails.{undone-to}
 
 -- ## The trail
 

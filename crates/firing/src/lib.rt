@@ -2,7 +2,7 @@
 pub mod fire;
 
 use rules::Sent;
-use rules::State;
+use rules::Votes;
 
 // The places of the table that a call wrote, in order, with the names that they held before.
 pub struct Trail {
@@ -11,9 +11,16 @@ pub struct Trail {
     pub names: [u64; 7],
 }
 
-// The work of a call: the next state, the outputs, and the way back.
+// What firing leaves beside the lent log, table and trail: the votes, the outputs, and the trail's count.
+pub struct Fired {
+    pub votes: Votes,
+    pub sent: Sent,
+    pub count: usize,
+}
+
+// The work of a call: the votes after it, the outputs, and the way back. The log is in the lent arrays.
 pub struct Worked {
-    pub state: State,
+    pub votes: Votes,
     pub sent: Sent,
     pub trail: Trail,
 }

@@ -14,7 +14,7 @@ use Rattle.rules.specs.declared.Step.the-variants.{Propose, Prevote, Precommit}
 use Rattle.rules.specs.declared.Stand.{Stand}
 use Rattle.rules.specs.declared.Input.{Input}
 use Rattle.rules.specs.declared.Output.{Output}
-use Rattle.rules.specs.State.{settled-round}
+use Rattle.rules.specs.State.{settled-round, log-of}
 use Rattle.kiosk.specs.declared.Kiosk.{Kiosk}
 use Rattle.kiosk.specs.declared.Reply.{Reply}
 use Rattle.answers.specs.Answers.{number-of, place-of}
@@ -78,7 +78,7 @@ kiosk-of f = record {
     stand = stand-of f;
     locked = record { next = f .«locked_next»; name = f .«locked_name» };
     valid = record { next = f .«valid_next»; name = f .«valid_name» };
-    log = f .log;
+    log = log-of (f .prevotes) (f .precommits) (f .proposals) (f .valids);
   };
   used = f .used;
   last = f .last;
@@ -104,7 +104,10 @@ flat-kiosk k = record {
   backed = flag (k .state .stand .backed);
   «locked_next» = k .state .locked .next;
   «valid_next» = k .state .valid .next;
-  log = k .state .log;
+  prevotes = k .state .log .prevotes;
+  precommits = k .state .log .precommits;
+  proposals = k .state .log .proposals;
+  valids = k .state .log .valids;
 }
 
 -- ## Inputs, outputs, replies

@@ -1,9 +1,7 @@
-// Flat twins of the structs that cross to C: plain numbers, laid out as include/slipcoacher.h has them. The log is plain numbers
-// already, and crosses as it is.
+// Flat twins of the structs that cross to C: plain numbers, laid out as include/slipcoacher.h has them. The log is arrays of plain
+// numbers already, and crosses as it is.
 pub mod sent;
 pub mod state;
-
-use rules::Heard;
 
 #[repr(C)]
 pub struct FlatKiosk {
@@ -25,7 +23,10 @@ pub struct FlatKiosk {
     pub backed: u8,
     pub locked_next: u8,
     pub valid_next: u8,
-    pub log: [Heard; 16],
+    pub prevotes: [u32; 16],
+    pub precommits: [u32; 16],
+    pub proposals: [u8; 16],
+    pub valids: [u8; 16],
 }
 
 #[repr(C)]

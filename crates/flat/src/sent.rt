@@ -3,19 +3,21 @@ use crate::FlatInput;
 use crate::FlatKiosk;
 use crate::FlatOutput;
 use crate::FlatReply;
-use crate::state::flag;
-use crate::state::phase_number;
-use crate::state::step_number;
+use crate::state::flat_kiosk;
 use answers::number_of;
 use answers::place_of;
+use kiosk::Done;
 use kiosk::Reply;
 use roll::Height;
+use roll::Roll;
 use roll::Round;
 use rules::Input;
 use rules::Output;
-use rules::tests::settled_round;
+use rules::Votes;
 ghost use mathlib.Core.Path.{_≡_};
 ghost use mathlib.Core.List.{map};
+ghost use Rattle.rules.specs.State.{log-of};
+ghost use Rattle.kiosk.specs.Promises.{reply-of};
 ghost use Rattle.flat.specs.Flat.{input-of, flat-output, flat-reply, impossible};
 
 pub fn input_of(i: FlatInput) -> Input
@@ -61,46 +63,67 @@ fn flat_list(list: [Output; 6]) -> [FlatOutput; 6]
     flat
 }
 
-pub fn flat_reply(r: Reply) -> FlatReply
-    ensures { λ x. ⌜ x ≡ flat-reply r ⌝ }
+// The reply of a call to which the log was lent: the roll, what the call gives, and the log after it.
+pub fn flat_done(
+    roll: Roll,
+    d: Done,
+    prevotes: [u32; 16],
+    precommits: [u32; 16],
+    proposals: [u8; 16],
+    valids: [u8; 16],
+) -> FlatReply
+    ensures { λ x. ⌜ x ≡ flat-reply (reply-of roll (log-of prevotes precommits proposals valids) d) ⌝ }
 {
-    let answer = r.answer;
-    let list = r.sent.list;
-    let state = r.kiosk.state;
-    let phase = state.phase;
-    let stand = state.stand;
-    let step = stand.step;
-    let asked = stand.asked;
-    let powers = state.roll.powers;
-    let log = state.log;
+    let answer = d.answer;
+    let list = d.sent.list;
+    let votes = d.votes;
     let sent = flat_list(list);
     FlatReply {
         number: number_of(answer),
         place: place_of(answer),
-        count: r.sent.count,
+        count: d.sent.count,
         sent,
-        kiosk: FlatKiosk {
-            kiosks: state.roll.kiosks,
-            own: state.roll.own,
-            used: r.kiosk.used,
-            last: r.kiosk.last,
-            locked_name: state.locked.name,
-            valid_name: state.valid.name,
-            height: state.roll.height.0,
-            powers,
-            phase: phase_number(phase),
-            settled: settled_round(phase),
-            round: stand.round.0,
-            step: step_number(step),
-            asked_propose: flag(asked.propose),
-            asked_prevote: flag(asked.prevote),
-            asked_precommit: flag(asked.precommit),
-            backed: flag(stand.backed),
-            locked_next: state.locked.next,
-            valid_next: state.valid.next,
-            log,
-        },
+        kiosk: flat_kiosk(
+            roll,
+            votes,
+            d.used,
+            d.last,
+            prevotes,
+            precommits,
+            proposals,
+            valids,
+        ),
     }
+}
+
+pub fn flat_reply(r: Reply) -> FlatReply
+    ensures { λ x. ⌜ x ≡ flat-reply r ⌝ }
+{
+    let answer = r.answer;
+    let sent = r.sent;
+    let state = r.kiosk.state;
+    let roll = state.roll;
+    let phase = state.phase;
+    let stand = state.stand;
+    let locked = state.locked;
+    let valid = state.valid;
+    let prevotes = state.log.prevotes;
+    let precommits = state.log.precommits;
+    let proposals = state.log.proposals;
+    let valids = state.log.valids;
+    let done = Done {
+        answer,
+        sent,
+        votes: Votes {
+            phase,
+            stand,
+            locked,
+            valid,
+        },
+        used: r.kiosk.used,
+        last: r.kiosk.last,
+    };
+    flat_done(roll, done, prevotes, precommits, proposals, valids)
 }
 
 // Refusal 1, with the state that was given.

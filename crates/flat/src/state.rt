@@ -1,6 +1,5 @@
 // The state and its twin.
 use crate::FlatKiosk;
-use kiosk::Kiosk;
 use roll::Height;
 use roll::Roll;
 use roll::Round;
@@ -8,13 +7,15 @@ use rules::Asked;
 use rules::Held;
 use rules::Phase;
 use rules::Stand;
-use rules::State;
 use rules::Step;
+use rules::Votes;
+use rules::tests::settled_round;
 ghost use mathlib.Core.Path.{_≡_};
-ghost use Rattle.flat.specs.Flat.{flag, phase-of, phase-number, step-of, step-number, holds, kiosk-of};
+ghost use Rattle.rules.specs.State.{state-of, votes-of, log-of};
+ghost use Rattle.flat.specs.Flat.{flag, phase-of, phase-number, step-of, step-number, holds, kiosk-of, flat-kiosk};
 
 // A truth as 0 or 1.
-pub fn flag(b: bool) -> u8
+fn flag(b: bool) -> u8
     ensures { λ n. ⌜ n ≡ flag b ⌝ }
 {
     if b { 1 } else { 0 }
@@ -32,7 +33,7 @@ fn phase_of(phase: u8, settled: u8) -> Phase
     Phase::Settled(Round(settled))
 }
 
-pub fn phase_number(p: Phase) -> u8
+fn phase_number(p: Phase) -> u8
     ensures { λ n. ⌜ n ≡ phase-number p ⌝ }
 {
     match p {
@@ -54,7 +55,7 @@ fn step_of(step: u8) -> Step
     Step::Precommit
 }
 
-pub fn step_number(s: Step) -> u8
+fn step_number(s: Step) -> u8
     ensures { λ n. ⌜ n ≡ step-number s ⌝ }
 {
     match s {
@@ -77,18 +78,22 @@ pub fn holds(f: FlatKiosk) -> bool
         & (f.backed <= 1)
 }
 
-pub fn kiosk_of(f: FlatKiosk) -> Kiosk
-    ensures { λ k. ⌜ k ≡ kiosk-of f ⌝ }
+pub fn roll_of(f: FlatKiosk) -> Roll
+    ensures { λ r. ⌜ r ≡ kiosk-of f .state .roll ⌝ }
 {
     let powers = f.powers;
-    let log = f.log;
-    let state = State {
-        roll: Roll {
-            kiosks: f.kiosks,
-            powers,
-            own: f.own,
-            height: Height(f.height),
-        },
+    Roll {
+        kiosks: f.kiosks,
+        powers,
+        own: f.own,
+        height: Height(f.height),
+    }
+}
+
+pub fn votes_of(f: FlatKiosk) -> Votes
+    ensures { λ v. ⌜ v ≡ votes-of (kiosk-of f .state) ⌝ }
+{
+    Votes {
         phase: phase_of(f.phase, f.settled),
         stand: Stand {
             round: Round(f.round),
@@ -108,11 +113,48 @@ pub fn kiosk_of(f: FlatKiosk) -> Kiosk
             next: f.valid_next,
             name: f.valid_name,
         },
-        log,
-    };
-    Kiosk {
-        state,
-        used: f.used,
-        last: f.last,
+    }
+}
+
+pub fn flat_kiosk(
+    roll: Roll,
+    votes: Votes,
+    used: usize,
+    last: usize,
+    prevotes: [u32; 16],
+    precommits: [u32; 16],
+    proposals: [u8; 16],
+    valids: [u8; 16],
+) -> FlatKiosk
+    ensures { λ f. ⌜ f ≡ flat-kiosk (record { state = state-of roll votes (log-of prevotes precommits proposals valids); used = used; last = last }) ⌝ }
+{
+    let phase = votes.phase;
+    let stand = votes.stand;
+    let step = stand.step;
+    let asked = stand.asked;
+    let powers = roll.powers;
+    FlatKiosk {
+        kiosks: roll.kiosks,
+        own: roll.own,
+        used,
+        last,
+        locked_name: votes.locked.name,
+        valid_name: votes.valid.name,
+        height: roll.height.0,
+        powers,
+        phase: phase_number(phase),
+        settled: settled_round(phase),
+        round: stand.round.0,
+        step: step_number(step),
+        asked_propose: flag(asked.propose),
+        asked_prevote: flag(asked.prevote),
+        asked_precommit: flag(asked.precommit),
+        backed: flag(stand.backed),
+        locked_next: votes.locked.next,
+        valid_next: votes.valid.next,
+        prevotes,
+        precommits,
+        proposals,
+        valids,
     }
 }

@@ -7,12 +7,14 @@ use native.Mathlib.Omega.{arith}
 use lib.ListN.{length, getD, set, length-set}
 use lib.Seq.{getD-set-same, getD-set-other}
 use lib.Dec.{ltb, leb, eqb}
+use lib.Pow.{pow-mono}
 use borrow.Author.Tests.{ltb-true, leb-true, eqb-true, eqb-false, not-true, not-false, lt-ltb, le-leb, eq-eqb, ne-eqb}
 use Rattle.words.specs.Choice.{if_then_else_, all-below, all-zero}
 use Rattle.words.proofs.Choice.{by-test, by-cases, and-left, and-right, all-holds, all-so, highest-passes}
 use Rattle.words.proofs.MarkLaws.{mark-below}
 use Rattle.rules.specs.declared.Heard.{Heard}
 use Rattle.rules.specs.declared.Held.{Held}
+use Rattle.rules.specs.declared.Log.{Log}
 use Rattle.roll.specs.Weighing.{roll-fits, proposer}
 use Rattle.rules.specs.declared.Input.{Input}
 use Rattle.rules.specs.declared.Phase.the-variants.{Running}
@@ -20,12 +22,13 @@ use Rattle.rules.specs.declared.Rule.the-variants.{Nothing}
 use Rattle.rules.specs.declared.State.{State}
 use Rattle.rules.specs.declared.Stand.{Stand}
 use Rattle.rules.specs.declared.Output.{Output}
-use Rattle.rules.specs.State.{most-rounds, silence, silent, spoken, held, settled-round, is-fresh, is-propose, is-prevote, entered, with-phase, with-stand, with-locked, with-valid, with-backed}
-use Rattle.rules.specs.Log.{the-log, Desk, desk, with-state, message-power, table-length, proposal-place, heard, proposed, logged, hear-proposal, hear-prevote, hear-precommit}
+use Rattle.rules.specs.State.{most-rounds, silent, spoken, held, settled-round, is-fresh, is-propose, is-prevote, entered, with-phase, with-stand, with-locked, with-valid, with-backed}
+use Rattle.rules.specs.Log.{the-log, Desk, desk, with-state, message-power, table-length, proposal-place, told, tell, heard, proposed, logged, hear-proposal, hear-prevote, hear-precommit}
 use Rattle.rules.specs.Doing.{current, own, step, prevote, precommit, propose, ask-propose, ask-prevote, ask-precommit, sheet-to-propose, start-round}
 use Rattle.rules.specs.Rules.{the-rules, first-rule, is-rule, fire, fire-36, fire-49, vote-22, vote-28, backed-sheet, closing-sheet, closing-round, calls, is-some, past-calling-round, applies-36, applies-49, applies-55}
 use Rattle.rules.specs.Work.{take-in, fire-all, most-firings, worked, work}
 use Rattle.rules.proofs.ByRule.{by-rule}
+use Rattle.rules.proofs.Ahead.{told-other}
 use Rattle.rules.proofs.Ends.{work-ends}
 use Rattle.answers.specs.Answers.{is-accepted}
 use Rattle.refusals.specs.Possible.{the-possible, held-fits, round-fits, fresh-fits, at-rest, desk-fits}
@@ -66,9 +69,9 @@ round-told d r e =
           (eqb-false (proposed d r) 0 (not-true (eqb (proposed d r) 0) (and-left s v sv)), leb-true (h .valid) r (and-right s v sv));
     }
 
-tell : (n r : ℕ) (h : Heard) (name : ℕ) → Heard-fits n r h name →
+holds-so : (n r : ℕ) (h : Heard) (name : ℕ) → Heard-fits n r h name →
     (ltb (h .prevotes) (2 ^ n) && ltb (h .precommits) (2 ^ n) && leb (h .proposal) 2 && (not (spoken h) || (not (eqb name 0) && leb (h .valid) r))) ≡ true
-tell n r h name f =
+holds-so n r h name f =
     rw (lt-ltb (h .prevotes) (2 ^ n) (f .prevotes), lt-ltb (h .precommits) (2 ^ n) (f .precommits), le-leb (h .proposal) 2 (f .verdict))
     (by-cases (spoken h)
     (λ p. rw (p, ne-eqb name 0 (f .sheet p .0), le-leb (h .valid) r (f .sheet p .1)))
@@ -76,7 +79,7 @@ tell n r h name f =
 
 pub round-holds : (d : Desk) (r : ℕ) → Heard-fits (d .state .roll .kiosks) r (heard d r) (proposed d r) → round-fits d r ≡ true
 unfolding round-fits
-round-holds d r f = tell (d .state .roll .kiosks) r (heard d r) (proposed d r) f
+round-holds d r f = holds-so (d .state .roll .kiosks) r (heard d r) (proposed d r) f
 
 -- ---- a locked or a valid sheet
 
@@ -106,13 +109,33 @@ pub record Sound (d : Desk) : Type 0 where
   pub locked : held-fits (current d) (d .state .locked) ≡ true
   pub valid : held-fits (current d) (d .state .valid) ≡ true
 
--- what a place holds once one is set
-set-read {ℓ} : {A : Type ℓ} (P : A → Type 0) (l : List A) (i j : ℕ) (a z : A) → (j ≡ i → P a) → P (getD l j z) → P (getD (set l i a) j z)
-set-read P [] i j a z f g = g
-set-read P (x ∷ l) zero zero a z f g = f refl
-set-read P (x ∷ l) zero (suc j) a z f g = g
-set-read P (x ∷ l) (suc i) zero a z f g = g
-set-read P (x ∷ l) (suc i) (suc j) a z f g = set-read P l i j a z (λ e. f (ap suc e)) g
+-- what a place holds once one is set: that, or nothing where there is no such place
+set-at : (P : ℕ → Type 0) (l : List ℕ) (i a : ℕ) → P a → P 0 → P (getD (set l i a) i 0)
+set-at P [] i a f g = g
+set-at P (x ∷ l) zero a f g = f
+set-at P (x ∷ l) (suc i) a f g = set-at P l i a f g
+
+-- what a log says of a round once it is told it
+told-fits : (l : Log) (n r name : ℕ) (h : Heard) → Heard-fits n r h name → Heard-fits n r (told (tell l r h) r) name
+unfolding told
+told-fits l n r name h f = record {
+  prevotes = set-at (λ x. x < 2 ^ n) (l .prevotes) r (h .prevotes) (f .prevotes) (omega (arith, pow-mono {i = 0} {j = n} (omega arith)));
+  precommits = set-at (λ x. x < 2 ^ n) (l .precommits) r (h .precommits) (f .precommits) (omega (arith, pow-mono {i = 0} {j = n} (omega arith)));
+  verdict = set-at (λ x. x ≤ 2) (l .proposals) r (h .proposal) (f .verdict) (omega arith);
+  sheet =
+      set-at (λ x. not (eqb x 0) ≡ true → (name ≡ 0 → ⊥) × (getD (set (l .valids) r (h .valid)) r 0 ≤ r)) (l .proposals) r (h .proposal)
+      (λ p. (f .sheet p .0, set-at (λ x. x ≤ r) (l .valids) r (h .valid) (f .sheet p .1) (omega arith)))
+      (λ p. absurd (false≢true p));
+}
+
+-- a message in the log of a round, and the names that a table has then
+told-kept : (d : Desk) → (r : ℕ) (h : Heard) (t : List ℕ) → Heard-fits (d .state .roll .kiosks) r h (getD t (proposal-place r) 0)
+    → (q : ℕ) → ((q ≡ r → ⊥) → Heard-fits (d .state .roll .kiosks) q (heard d q) (getD t (proposal-place q) 0))
+    → Heard-fits (d .state .roll .kiosks) q (told (tell (d .state .log) r h) q) (getD t (proposal-place q) 0)
+told-kept d r h t new q old =
+    by-cases (eqb q r)
+    (λ e. rw (eqb-true q r e) (told-fits (d .state .log) (d .state .roll .kiosks) r (getD t (proposal-place r) 0) h new))
+    (λ e. rw (told-other (d .state .log) r h (eqb-false q r e)) (old (eqb-false q r e)))
 
 -- a vote in the log: its place is none of a proposal's
 vote-kept : (d : Desk) → Sound d → (r : ℕ) (h : Heard) (place name : ℕ) → ((q : ℕ) → proposal-place q ≡ place → ⊥)
@@ -127,9 +150,10 @@ vote-kept d s r h place name apart new = record {
   round = s .round;
   settled = s .settled;
   all-heard = λ q l.
-      set-read (λ (x : Heard). Heard-fits (d .state .roll .kiosks) q x (getD (set (d .table) place name) (proposal-place q) 0)) (d .state .log) r q h silence
-      (λ e. rw (getD-set-other (d .table) place (proposal-place q) name 0 (apart q)) (rw e new))
-      (rw (getD-set-other (d .table) place (proposal-place q) name 0 (apart q)) (s .all-heard q l));
+      told-kept d r h (set (d .table) place name)
+      (rw (getD-set-other (d .table) place (proposal-place r) name 0 (apart r)) new)
+      q
+      (λ e. rw (getD-set-other (d .table) place (proposal-place q) name 0 (apart q)) (s .all-heard q l));
   locked = s .locked;
   valid = s .valid;
 }
@@ -158,15 +182,10 @@ proposal-kept d s r good valid name l v some =
       round = s .round;
       settled = s .settled;
       all-heard = λ q m.
-          by-cases (eqb q r)
-          (λ e. let g : q ≡ r = eqb-true q r e in
-          rw g (set-read (λ (x : Heard). Heard-fits n r x (getD (set t (proposal-place r) name) (proposal-place r) 0)) (d .state .log) r r _ silence
-          (λ z. record { prevotes = old .prevotes; precommits = old .precommits; verdict = verdict-low good; sheet = λ p. (rw same some, v) })
-          (record { prevotes = old .prevotes; precommits = old .precommits; verdict = old .verdict; sheet = λ p. (rw same some, old .sheet p .1) })))
-          (λ e. let g : q ≡ r → ⊥ = eqb-false q r e in
-          set-read (λ (x : Heard). Heard-fits n q x (getD (set t (proposal-place r) name) (proposal-place q) 0)) (d .state .log) r q _ silence
-          (λ z. absurd (g z))
-          (rw (getD-set-other t (proposal-place r) (proposal-place q) name 0 (λ z. g (omega (arith, z)))) (s .all-heard q m)));
+          told-kept d r _ (set t (proposal-place r) name)
+          (record { prevotes = old .prevotes; precommits = old .precommits; verdict = verdict-low good; sheet = λ p. (rw same some, v) })
+          q
+          (λ e. rw (getD-set-other t (proposal-place r) (proposal-place q) name 0 (λ z. e (omega (arith, z)))) (s .all-heard q m));
       locked = s .locked;
       valid = s .valid;
     }

@@ -1,11 +1,12 @@
 -- Laws of the judging of a call: what is asked in turn, each answer by the first test that gives it. Assumes nothing.
-use Prim.Native.Nat.{ℕ, suc, _+_, _*_, _%_, _^_, _≤_, _<_}
+use Prim.Native.Nat.{ℕ, zero, suc, _+_, _*_, _%_, _^_, _≤_, _<_}
 use mathlib.Core.Path.{_≡_, refl, sym, _∙_}
-use mathlib.Core.Bool.{Bool, true, false, not, _&&_, _||_, false≢true, Bool·beq}
+use mathlib.Core.Bool.{Bool, true, false, not, _&&_, _||_, false≢true, Bool·beq, and-assoc, and-true}
 use mathlib.Core.List.{List}
 use native.Mathlib.Numerals.{add-one}
 use native.Mathlib.Omega.{arith}
 use borrow.Author.Tests.{ltb-true, ltb-false, leb-true, leb-false, eqb-true, eqb-false, lt-ltb, le-ltb, eq-eqb, ne-eqb, not-true, not-false}
+use lib.Bits.{bitOr, or-zero-l, or-add-and, or-lt, and-le-l, and-le-r}
 use lib.Dec.{ltb, leb, eqb, eqb·suc-suc}
 use lib.ListN.{length, drop, getD, drop-of-length-le}
 use lib.Pow.{pow-mono}
@@ -18,7 +19,7 @@ use Rattle.roll.proofs.Weighing.{fits-not-few, fits-not-many}
 use Rattle.rules.specs.declared.State.{State}
 use Rattle.rules.specs.declared.Input.{Input}
 use Rattle.rules.specs.State.{settled-round, is-fresh, is-settled}
-use Rattle.rules.specs.Log.{Desk, desk}
+use Rattle.rules.specs.Log.{Desk, desk, told, proposal-place}
 use Rattle.rules.specs.Rules.{first-rule, is-rule}
 use Rattle.rules.specs.Ready.{Ready}
 use Rattle.answers.specs.declared.Answer.{Answer}
@@ -26,20 +27,74 @@ use Rattle.answers.specs.declared.Answer.the-variants.{Accepted, AlreadySettled
 use Rattle.refusals.specs.Possible.{round-fits, held-fits, fresh-fits, at-rest, desk-fits}
 use Rattle.refusals.specs.Refusals.{is-start, is-proposal, is-vote, is-timer, kind-fits, fields-fit, place-heard, same-heard, timer-due, refused-message, refused-input}
 
--- ---- the table before start: its numbers are passed while they are 0
+-- ---- the table before start: its numbers are joined
 
-module _ (l : List ℕ) (i : ℕ) where
-  pub zero-more : i < length l → getD l i 0 ≡ 0 → all-zero (drop i l) ≡ all-zero (drop (i + 1) l)
-  unfolding all-zero
-  zero-more h e = rw (add-one, drop-cons l i 0, eq-eqb (getD l i 0) 0 e)
+joint-zero : (a b : ℕ) → eqb (bitOr a b) 0 ≡ (eqb a 0 && eqb b 0)
+joint-zero a b =
+    by-cases (eqb a 0)
+    (λ y. rw (eqb-true a 0 y, or-zero-l b))
+    (λ n. rw (n, ne-eqb (bitOr a b) 0 (λ z. eqb-false a 0 n (omega (arith, z, or-add-and a b, and-le-l a b, and-le-r a b)))))
 
-  pub zero-not : i < length l → (getD l i 0 ≡ 0 → ⊥) → all-zero (drop i l) ≡ false
+module _ (l : List ℕ) (any i : ℕ) where
+  pub zero-more : i < length l → (eqb any 0 && all-zero (drop i l)) ≡ (eqb (bitOr any (getD l i 0)) 0 && all-zero (drop (i + 1) l))
   unfolding all-zero
-  zero-not h e = rw (drop-cons l i 0, ne-eqb (getD l i 0) 0 e)
+  zero-more h = rw (add-one, drop-cons l i 0, joint-zero any (getD l i 0)) (sym (and-assoc (eqb any 0) (eqb (getD l i 0) 0) (all-zero (drop (suc i) l))))
 
-  pub zero-end : length l ≤ i → all-zero (drop i l) ≡ true
+  pub zero-end : length l ≤ i → (eqb any 0 && all-zero (drop i l)) ≡ eqb any 0
   unfolding all-zero
-  zero-end h = rw (drop-of-length-le l h)
+  zero-end h = rw (drop-of-length-le l h) (and-true (eqb any 0))
+
+-- ---- the log: the marks are joined too
+
+-- no seat is marked in 0
+pub none-below : (n : ℕ) → ltb 0 (2 ^ n) ≡ true
+none-below n = lt-ltb 0 (2 ^ n) (omega (arith, pow-mono {i = 0} {j = n} (omega arith)))
+
+joint-below : (n a b : ℕ) → ltb (bitOr a b) (2 ^ n) ≡ (ltb a (2 ^ n) && ltb b (2 ^ n))
+joint-below n a b =
+    let sum = or-add-and a b in
+    by-cases (ltb a (2 ^ n))
+    (λ y.
+    by-cases (ltb b (2 ^ n))
+    (λ z. rw (y, z) (lt-ltb (bitOr a b) (2 ^ n) (or-lt n a b (ltb-true a (2 ^ n) y) (ltb-true b (2 ^ n) z))))
+    (λ z. rw (y, z) (le-ltb (bitOr a b) (2 ^ n) (omega (arith, sum, and-le-l a b, ltb-false b (2 ^ n) z)))))
+    (λ y. rw y (le-ltb (bitOr a b) (2 ^ n) (omega (arith, sum, and-le-r a b, ltb-false a (2 ^ n) y))))
+
+pub marks-more : (n m a b : ℕ) → ltb (bitOr m (bitOr a b)) (2 ^ n) ≡ (ltb m (2 ^ n) && (ltb a (2 ^ n) && ltb b (2 ^ n)))
+marks-more n m a b = rw (joint-below n m (bitOr a b), joint-below n a b)
+
+-- a round at which the test holds adds nothing
+pub all-over : (f : ℕ → Bool) (k : ℕ) {b : Bool} → b ≡ all-below k f → f k ≡ true → b ≡ all-below (k + 1) f
+unfolding all-below
+all-over f k {b} e h = rw (add-one, ← e, h) (sym (and-true b))
+
+-- the tests of a round's marks and of its proposal, asked of the rounds before it as well
+both-more : (ms ps m p q r : Bool) {all : Bool} → (ms && ps) ≡ all
+    → ((ms && m) && (ps && (p && (q || r)))) ≡ (all && (m && p && (not (not q) || r)))
+both-more true ps true p true r e = rw (← e)
+both-more true ps true p false r e = rw (← e)
+both-more true true false p q r e = rw (← e)
+both-more true false false p q r e = rw (← e)
+both-more false ps m p q r e = rw (← e)
+
+-- a round's marks are of seats on the roll; its proposal may be heard of it
+abbrev marks-so : State → ℕ → Bool
+marks-so s r = ltb (getD (s .log .prevotes) r 0) (2 ^ s .roll .kiosks) && ltb (getD (s .log .precommits) r 0) (2 ^ s .roll .kiosks)
+
+abbrev proposal-so : State → List ℕ → ℕ → Bool
+proposal-so s t r =
+    leb (getD (s .log .proposals) r 0) 2 &&
+    (eqb (getD (s .log .proposals) r 0) 0 || (not (eqb (getD t (proposal-place r) 0) 0) && leb (getD (s .log .valids) r 0) r))
+
+-- asked of every round apart, they are what is asked of every round
+pub rounds-both : (s : State) (t : List ℕ) (n : ℕ)
+    → (all-below n (λ r. marks-so s r) && all-below n (λ r. proposal-so s t r)) ≡ all-below n (λ r. round-fits (desk s t) r)
+unfolding all-below round-fits told
+rounds-both s t zero = refl
+rounds-both s t (suc n) =
+    both-more (all-below n (λ r. marks-so s r)) (all-below n (λ r. proposal-so s t r)) (marks-so s n)
+    (leb (getD (s .log .proposals) n 0) 2) (eqb (getD (s .log .proposals) n 0) 0)
+    (not (eqb (getD t (proposal-place n) 0) 0) && leb (getD (s .log .valids) n 0) n) (rounds-both s t n)
 
 -- the first number past the marks of n seats, as the code has it
 pub past-marks : (n : ℕ) → n ≤ 32 → 1 * 2 ^ n % 18446744073709551616 ≡ 2 ^ n

@@ -1,23 +1,24 @@
 // Refusal 1: whether a voting state and a table are possible.
 use applies::when::first_rule;
+use roll::Roll;
 use roll::Round;
-use rules::Heard;
 use rules::Held;
-use rules::State;
-use rules::log::proposed;
+use rules::Votes;
+use rules::places::proposed;
 use rules::tests::is_fresh;
 use rules::tests::is_rule;
-use rules::tests::is_silent;
 use rules::tests::settled_round;
-ghost use Prim.Native.Nat.{ℕ, _+_, _≤_, _<_};
+ghost use Prim.Native.Nat.{ℕ, _^_, _≤_};
 ghost use mathlib.Core.Path.{_≡_};
 ghost use mathlib.Core.List.{List};
 ghost use mathlib.Core.Bool.{_&&_, _||_, not};
 ghost use lib.Dec.{ltb, leb, eqb};
-ghost use lib.ListN.{length};
+ghost use lib.ListN.{length, getD};
 ghost use Rattle.words.specs.Choice.{all-below, all-zero};
-ghost use Rattle.rules.specs.State.{silent, spoken};
-ghost use Rattle.rules.specs.Log.{desk, heard, table-length};
+ghost use Rattle.roll.specs.declared.Roll as rolls;
+ghost use Rattle.rules.specs.declared.Votes as voting;
+ghost use Rattle.rules.specs.State.{log-of, state-of, silent};
+ghost use Rattle.rules.specs.Log.{desk, told, table-length, proposal-place};
 ghost use Rattle.refusals.specs.Possible.{held-fits, round-fits, fresh-fits, desk-fits};
 
 // Whether a sheet is held from a round up to the current one, with a name; or none is.
@@ -33,73 +34,128 @@ fn held_fits(r: Round, h: Held) -> bool
     h.name != 0
 }
 
-// What is heard of a round and the name of its proposal; `seats` is one mark past the roll's last.
-fn round_fits(seats: u64, h: Heard, name: u64, r: Round) -> bool
-    ensures { λ b. ⌜ b ≡ (ltb (h .prevotes) seats && ltb (h .precommits) seats && leb (h .proposal) 2 && (not (spoken h) || (not (eqb name 0) && leb (h .valid) (r .0)))) ⌝ }
+// Whether each seat marked is on a roll of so many kiosks.
+fn on_roll(kiosks: usize, marks: u32) -> bool
+    requires { ⌜ kiosks ≤ 32 ⌝ }
+    ensures { λ b. ⌜ b ≡ ltb marks (2 ^ kiosks) ⌝ }
 {
-    ((h.prevotes as u64) < seats)
-        & ((h.precommits as u64) < seats)
-        & (h.proposal <= 2)
-        & (!(h.proposal != 0) | (!(name == 0) & (h.valid <= r.0)))
+    let seats = 1u64 << kiosks;
+    (marks as u64) < seats
 }
 
-fn rounds_fit(s: State, table: &[u64]) -> bool
-    requires { ⌜ (s .roll .kiosks ≤ 32) × (length (now table) ≡ table-length) ⌝ }
-    ensures { λ b. ⌜ b ≡ all-below 16 (λ r. round-fits (desk s (now (table .entry))) r) ⌝ }
+// Whether every mark is of a seat on the roll. The marks are joined and their joint is asked at the end.
+fn marks_fit<'a>(kiosks: usize, prevotes: &'a [u32; 16], precommits: &'a [u32; 16]) -> bool
+    requires { ⌜ kiosks ≤ 32 ⌝ }
+    ensures { λ b. ⌜ b ≡ all-below 16 (λ r. ltb (getD (now (prevotes .entry)) r 0) (2 ^ kiosks) && ltb (getD (now (precommits .entry)) r 0) (2 ^ kiosks)) ⌝ }
 {
-    let seats = 1u64 << s.roll.kiosks;
+    let mut marks: u32 = 0;
+    let mut at: usize = 0;
+    while at < 16 {
+        marks = marks | (prevotes[at] | precommits[at]);
+        at += 1;
+    }
+    on_roll(kiosks, marks)
+}
+
+// Whether every proposal heard may be heard of its round. A round without one is passed at once.
+fn proposals_fit<'a>(proposals: &'a [u8; 16], valids: &'a [u8; 16], table: &[u64]) -> bool
+    requires { ⌜ length (now table) ≡ table-length ⌝ }
+    ensures { λ b. ⌜ b ≡ all-below 16 (λ r. leb (getD (now (proposals .entry)) r 0) 2 && (eqb (getD (now (proposals .entry)) r 0) 0 || (not (eqb (getD (now (table .entry)) (proposal-place r) 0) 0) && leb (getD (now (valids .entry)) r 0) r))) ⌝ }
+{
     let mut fit = true;
     let mut r: u8 = 0;
     while r < 16 {
         let at = r as usize;
+        let proposal = proposals[at];
+        if proposal == 0 {
+            r += 1;
+            continue;
+        }
         let name = proposed(table, Round(r));
-        fit = fit & round_fits(seats, s.log[at], name, Round(r));
+        fit = fit & ((proposal <= 2) & (!(name == 0) & (valids[at] <= r)));
         r += 1;
     }
     fit
 }
 
-fn all_silent(s: State) -> bool
-    ensures { λ b. ⌜ ((t : List ℕ) → b ≡ all-below 16 (λ r. silent (heard (desk s t) r))) ⌝ }
+// The marks and the proposal of every round.
+fn rounds_fit<'a>(
+    kiosks: usize,
+    prevotes: &'a [u32; 16],
+    precommits: &'a [u32; 16],
+    proposals: &'a [u8; 16],
+    valids: &'a [u8; 16],
+    table: &[u64],
+) -> bool
+    requires { ⌜ (kiosks ≤ 32) × (length (now table) ≡ table-length) ⌝ }
+    ensures { λ b. ⌜ ((roll : rolls.Roll) (v : voting.Votes) → kiosks ≡ roll .kiosks → b ≡ all-below 16 (λ r. round-fits (desk (state-of roll v (log-of (now (prevotes .entry)) (now (precommits .entry)) (now (proposals .entry)) (now (valids .entry)))) (now (table .entry))) r)) ⌝ }
+{
+    marks_fit(kiosks, prevotes, precommits) & proposals_fit(proposals, valids, table)
+}
+
+// A valid round says nothing of a round without a proposal, so none is read.
+fn all_silent<'a>(
+    prevotes: &'a [u32; 16],
+    precommits: &'a [u32; 16],
+    proposals: &'a [u8; 16],
+) -> bool
+    ensures { λ b. ⌜ ((valids : List ℕ) → b ≡ all-below 16 (λ r. silent (told (log-of (now (prevotes .entry)) (now (precommits .entry)) (now (proposals .entry)) valids) r))) ⌝ }
 {
     let mut all = true;
-    let mut r: u8 = 0;
-    while r < 16 {
-        all = all & is_silent(s.heard(Round(r)));
-        r += 1;
+    let mut at: usize = 0;
+    while at < 16 {
+        all = all & ((proposals[at] == 0) & (prevotes[at] == 0) & (precommits[at] == 0));
+        at += 1;
     }
     all
 }
 
+// The numbers are joined and their joint is asked at the end: without an early return, many are read at once.
 fn all_zero(table: &[u64]) -> bool
     ensures { λ b. ⌜ b ≡ all-zero (now (table .entry)) ⌝ }
 {
+    let mut any: u64 = 0;
     let mut i: usize = 0;
     while i < table.len() {
-        if table[i] != 0 {
-            return false;
-        }
+        any = any | table[i];
         i += 1;
     }
-    true
+    any == 0
 }
 
 // Before start nothing is heard or held.
-fn fresh_fits(s: State, table: &[u64]) -> bool
-    ensures { λ b. ⌜ b ≡ fresh-fits (desk s (now (table .entry))) ⌝ }
+fn fresh_fits<'a>(
+    votes: Votes,
+    prevotes: &'a [u32; 16],
+    precommits: &'a [u32; 16],
+    proposals: &'a [u8; 16],
+    table: &[u64],
+) -> bool
+    ensures { λ b. ⌜ ((roll : rolls.Roll) (valids : List ℕ) → b ≡ fresh-fits (desk (state-of roll votes (log-of (now (prevotes .entry)) (now (precommits .entry)) (now (proposals .entry)) valids)) (now (table .entry)))) ⌝ }
 {
-    if !all_silent(s) {
+    if !all_silent(prevotes, precommits, proposals) {
         return false;
     }
-    all_zero(table) & (s.stand.round.0 == 0) & (s.locked.next == 0) & (s.valid.next == 0)
+    all_zero(table)
+        & (votes.stand.round.0 == 0)
+        & (votes.locked.next == 0)
+        & (votes.valid.next == 0)
 }
 
 // The voting state and the table: once started, no rule may apply.
-pub fn desk_fits(s: State, table: &[u64]) -> bool
-    ensures { λ b. ⌜ b ≡ desk-fits (desk s (now (table .entry))) ⌝ }
+pub fn desk_fits<'a>(
+    votes: Votes,
+    roll: Roll,
+    prevotes: &'a [u32; 16],
+    precommits: &'a [u32; 16],
+    proposals: &'a [u8; 16],
+    valids: &'a [u8; 16],
+    table: &[u64],
+) -> bool
+    ensures { λ b. ⌜ b ≡ desk-fits (desk (state-of roll votes (log-of (now (prevotes .entry)) (now (precommits .entry)) (now (proposals .entry)) (now (valids .entry)))) (now (table .entry))) ⌝ }
 {
-    let roll = s.roll;
-    let phase = s.phase;
+    let phase = votes.phase;
+    let stand = votes.stand;
     if !roll.fits() {
         return false;
     }
@@ -109,21 +165,31 @@ pub fn desk_fits(s: State, table: &[u64]) -> bool
     if table.len() != 1040 {
         return false;
     }
-    if 16 <= s.stand.round.0 {
+    if 16 <= stand.round.0 {
         return false;
     }
     if 16 <= settled_round(phase) {
         return false;
     }
-    if !rounds_fit(s, table) {
+    if !rounds_fit(roll.kiosks, prevotes, precommits, proposals, valids, table) {
         return false;
     }
-    let r = s.stand.round;
-    if !(held_fits(r, s.locked) & held_fits(r, s.valid)) {
+    let r = stand.round;
+    if !(held_fits(r, votes.locked) & held_fits(r, votes.valid)) {
         return false;
     }
     if is_fresh(phase) {
-        return fresh_fits(s, table);
+        return fresh_fits(votes, prevotes, precommits, proposals, table);
     }
-    !is_rule(first_rule(s, table, roll.total()))
+    let total = roll.total();
+    !is_rule(first_rule(
+        votes,
+        roll,
+        prevotes,
+        precommits,
+        proposals,
+        valids,
+        table,
+        total,
+    ))
 }

@@ -3,16 +3,14 @@
 use Prim.Native.Nat.{ℕ, suc, _≤_, _<_}
 use mathlib.Core.Path.{_≡_}
 use mathlib.Core.Bool.{false}
-use mathlib.Core.List.{List}
 use native.Mathlib.Omega.{arith}
-use lib.ListN.{getD, set}
 use lib.Seq.{getD-set-other}
 use lib.Dec.{ltb}
 use borrow.Author.Tests.{lt-ltb, ltb-true, leb-false}
 use Rattle.words.proofs.Choice.{and-false, highest-none, highest-above}
 use Rattle.rules.specs.declared.Heard.{Heard}
-use Rattle.rules.specs.State.{silence}
-use Rattle.rules.specs.Log.{Desk, heard, message-power}
+use Rattle.rules.specs.declared.Log.{Log}
+use Rattle.rules.specs.Log.{Desk, told, tell, heard, message-power}
 use Rattle.rules.specs.Doing.{current}
 use Rattle.rules.specs.Rules.{is-some, calls, past-calling-round, applies-55}
 
@@ -23,9 +21,15 @@ pub record Ahead (r : ℕ) (d u : Desk) : Type 0 where
   pub round : current u ≡ r
   pub above : (q : ℕ) → r < q → heard u q ≡ heard d q
 
+-- what a log says of another round after `tell`
+pub told-other : (l : Log) (r : ℕ) (h : Heard) {q : ℕ} → (q ≡ r → ⊥) → told (tell l r h) q ≡ told l q
+unfolding told
+told-other l r h {q} off =
+    rw (getD-set-other (l .prevotes) r q (h .prevotes) 0 off, getD-set-other (l .precommits) r q (h .precommits) 0 off, getD-set-other (l .proposals) r q (h .proposal) 0 off, getD-set-other (l .valids) r q (h .valid) 0 off)
+
 -- what is put in the log of a round changes no round above
-pub same-above : (log : List Heard) (r : ℕ) (h : Heard) {q : ℕ} → r < q → getD (set log r h) q silence ≡ getD log q silence
-same-above log r h {q} less = getD-set-other log r q h silence (λ e. omega arith)
+pub same-above : (l : Log) (r : ℕ) (h : Heard) {q : ℕ} → r < q → told (tell l r h) q ≡ told l q
+same-above l r h {q} less = told-other l r h (λ e. omega arith)
 
 -- no round above r has messages of some power
 abbrev pub Silent : ℕ → Desk → Type 0

@@ -9,9 +9,10 @@ use Rattle.words.specs.Choice.{if_then_else_}
 use Rattle.words.specs.Marks.{marked, mark}
 use Rattle.roll.specs.Weighing.{power-of, proposer}
 use Rattle.rules.specs.declared.Heard.{Heard}
+use Rattle.rules.specs.declared.Log.{Log}
 use Rattle.rules.specs.declared.State.{State}
 use Rattle.rules.specs.declared.Output.{Output}
-use Rattle.rules.specs.State.{most-rounds, rounds-of, with-log, silence, spoken, good}
+use Rattle.rules.specs.State.{most-rounds, rounds-of, with-log, spoken, good}
 
 -- What a call works on: how many rounds there are, the state, the lent table, and the outputs so far
 pub record Desk : Type 0 where
@@ -48,9 +49,21 @@ precommit-place r i = per-round * r + 33 + i
 abbrev pub empty-table : List ℕ
 empty-table = replicate table-length 0
 
+-- "It says which places are heard": what a log says of round r, and the log that says this of round r
+unfoldable pub told : Log → ℕ → Heard
+told l r = record { prevotes = getD (l .prevotes) r 0; precommits = getD (l .precommits) r 0; proposal = getD (l .proposals) r 0; valid = getD (l .valids) r 0 }
+
+abbrev pub tell : Log → ℕ → Heard → Log
+tell l r h = record {
+  prevotes = set (l .prevotes) r (h .prevotes);
+  precommits = set (l .precommits) r (h .precommits);
+  proposals = set (l .proposals) r (h .proposal);
+  valids = set (l .valids) r (h .valid);
+}
+
 -- what is heard of round r
 abbrev pub heard : Desk → ℕ → Heard
-heard d r = getD (d .state .log) r silence
+heard d r = told (d .state .log) r
 
 -- the names of round r's proposal, and of seat i's votes in it
 abbrev pub proposed : Desk → ℕ → ℕ
@@ -72,7 +85,7 @@ good-sheets d r =
 abbrev pub logged : Desk → ℕ → Heard → ℕ → ℕ → Desk
 logged d r h place name = record {
   rounds = d .rounds;
-  state = with-log (set (d .state .log) r h) (d .state);
+  state = with-log (tell (d .state .log) r h) (d .state);
   table = set (d .table) place name;
   sent = d .sent;
 }
@@ -124,5 +137,5 @@ message-power d r =
 
 -- To compute with this file: `unfolding the-log` opens the above.
 unfoldable pub the-log : Unit {0}
-unfolding good-sheets hear-proposal hear-prevote hear-precommit prevote-power prevote-power-for precommit-power precommit-power-for message-power
+unfolding told good-sheets hear-proposal hear-prevote hear-precommit prevote-power prevote-power-for precommit-power precommit-power-for message-power
 the-log = tt

@@ -14,6 +14,8 @@ use Rattle.rules.specs.declared.Asked.{Asked}
 use Rattle.rules.specs.declared.Stand.{Stand}
 use Rattle.rules.specs.declared.Held.{Held}
 use Rattle.rules.specs.declared.Heard.{Heard}
+use Rattle.rules.specs.declared.Log.{Log}
+use Rattle.rules.specs.declared.Votes.{Votes}
 use Rattle.rules.specs.declared.State.{State}
 
 -- "rounds 0 to 15": how many rounds the table and the log have places for, and how many a kiosk in this state may enter. Every
@@ -62,12 +64,21 @@ silence = record { prevotes = 0; precommits = 0; proposal = 0; valid = 0 }
 abbrev pub silent : Heard → Bool
 silent h = eqb (h .proposal) 0 && eqb (h .prevotes) 0 && eqb (h .precommits) 0
 
--- the round's proposal is heard; and it is heard with verdict 1
+-- the round's proposal is heard; and it is heard good: "a verdict on the sheet (1 good, 0 bad)"
 abbrev pub spoken : Heard → Bool
 spoken h = not (eqb (h .proposal) 0)
 
 abbrev pub good : Heard → Bool
 good h = eqb (h .proposal) 2
+
+-- the log in which nothing is heard
+abbrev pub quiet : Log
+quiet = record {
+  prevotes = replicate most-rounds 0;
+  precommits = replicate most-rounds 0;
+  proposals = replicate most-rounds 0;
+  valids = replicate most-rounds 0;
+}
 
 -- no sheet is held: 003's nil and -1
 abbrev pub nothing : Held
@@ -94,7 +105,7 @@ before-start roll = record {
   stand = entered 0;
   locked = nothing;
   valid = nothing;
-  log = replicate most-rounds silence;
+  log = quiet;
 }
 
 -- the state with one part changed
@@ -138,7 +149,7 @@ with-valid h s = record {
   log = s .log;
 }
 
-abbrev pub with-log : List Heard → State → State
+abbrev pub with-log : Log → State → State
 with-log l s = record {
   roll = s .roll;
   phase = s .phase;
@@ -147,6 +158,16 @@ with-log l s = record {
   valid = s .valid;
   log = l;
 }
+
+-- a state in parts, as the steps of a call have it: the roll, the votes, and the lent arrays of the log
+abbrev pub log-of : List ℕ → List ℕ → List ℕ → List ℕ → Log
+log-of prevotes precommits proposals valids = record { prevotes = prevotes; precommits = precommits; proposals = proposals; valids = valids }
+
+abbrev pub state-of : Roll → Votes → Log → State
+state-of roll v l = record { roll = roll; phase = v .phase; stand = v .stand; locked = v .locked; valid = v .valid; log = l }
+
+abbrev pub votes-of : State → Votes
+votes-of s = record { phase = s .phase; stand = s .stand; locked = s .locked; valid = s .valid }
 
 -- the same round at another step, with other timers asked for, and after rule 36
 abbrev pub with-step : Step → Stand → Stand

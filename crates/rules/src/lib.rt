@@ -1,6 +1,6 @@
 // Algorithm 1 of 003: the voting state, and what goes in and out of it.
-pub mod log;
 pub mod outputs;
+pub mod places;
 pub mod tests;
 
 use roll::Height;
@@ -44,12 +44,19 @@ pub struct Held {
 
 // What is heard of a round, names aside (the lent table has those): a mark for each seat whose prevote, and whose precommit, is
 // heard; the proposal (0: none is heard, 1: one with verdict 0, 2: one with verdict 1) and its valid round plus one.
-#[repr(C)]
 pub struct Heard {
     pub prevotes: u32,
     pub precommits: u32,
     pub proposal: u8,
     pub valid: u8,
+}
+
+// What is heard of every round: an array for each number of `Heard`, so that each can be lent.
+pub struct Log {
+    pub prevotes: [u32; 16],
+    pub precommits: [u32; 16],
+    pub proposals: [u8; 16],
+    pub valids: [u8; 16],
 }
 
 // The voting state of a kiosk.
@@ -59,7 +66,15 @@ pub struct State {
     pub stand: Stand,
     pub locked: Held,
     pub valid: Held,
-    pub log: [Heard; 16],
+    pub log: Log,
+}
+
+// The voting state, its roll and log aside: what the steps of a call hand on, while the log is lent to them.
+pub struct Votes {
+    pub phase: Phase,
+    pub stand: Stand,
+    pub locked: Held,
+    pub valid: Held,
 }
 
 // A rule of 003, by its line, with what it was found to apply to: the sheet that is backed, the round and sheet to settle, the

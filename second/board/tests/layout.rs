@@ -1,7 +1,7 @@
 //! The library sees each field where this side's structs have it; from C the same, and the example runs.
 
 use board::{input_number, kiosk_number, layout, LIBRARY};
-use flat::{Heard, Input, Kiosk, Output, Reply, KIOSKS, ROUNDS};
+use flat::{Input, Kiosk, Output, Reply, KIOSKS, ROUNDS};
 use std::path::Path;
 use std::process::Command;
 
@@ -26,18 +26,19 @@ fn kiosk() -> Kiosk {
         backed: 8,
         locked_next: 9,
         valid_next: 10,
-        log: [Heard::default(); ROUNDS],
+        prevotes: [0; ROUNDS],
+        precommits: [0; ROUNDS],
+        proposals: [0; ROUNDS],
+        valids: [0; ROUNDS],
     };
     for (power, number) in kiosk.powers.iter_mut().zip(60_000..) {
         *power = number;
     }
-    for (heard, number) in kiosk.log.iter_mut().zip(20..) {
-        *heard = Heard {
-            prevotes: u32::MAX - 100 - u32::from(number),
-            precommits: u32::MAX - 200 - u32::from(number),
-            proposal: number,
-            valid: number + 20,
-        };
+    for (round, number) in (0..ROUNDS).zip(20..) {
+        kiosk.prevotes[round] = u32::MAX - 100 - u32::from(number);
+        kiosk.precommits[round] = u32::MAX - 200 - u32::from(number);
+        kiosk.proposals[round] = number;
+        kiosk.valids[round] = number + 20;
     }
     kiosk
 }
@@ -70,12 +71,12 @@ fn numbers(kiosk: &Kiosk) -> Vec<(usize, usize, u64)> {
     for (index, &power) in kiosk.powers.iter().enumerate() {
         numbers.push((7, index, power.into()));
     }
-    for (index, heard) in kiosk.log.iter().enumerate() {
+    for round in 0..ROUNDS {
         numbers.extend([
-            (18, index, heard.prevotes.into()),
-            (19, index, heard.precommits.into()),
-            (20, index, heard.proposal.into()),
-            (21, index, heard.valid.into()),
+            (18, round, kiosk.prevotes[round].into()),
+            (19, round, kiosk.precommits[round].into()),
+            (20, round, kiosk.proposals[round].into()),
+            (21, round, kiosk.valids[round].into()),
         ]);
     }
     // A field or an index that there is not.

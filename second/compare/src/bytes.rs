@@ -146,7 +146,7 @@ fn change(bytes: &mut Bytes, lent: &mut Lent) {
     let field = bytes.byte();
     let byte = bytes.byte();
     let kiosk = &mut lent.kiosk;
-    let heard = &mut kiosk.log[usize::from(field >> 4)];
+    let round = usize::from(field >> 4);
     let marks = 1 << (byte % 32) | 1 << (byte >> 5);
     match field % 27 {
         0 => kiosk.kiosks = byte.into(),
@@ -167,11 +167,11 @@ fn change(bytes: &mut Bytes, lent: &mut Lent) {
         15 => kiosk.backed = byte,
         16 => kiosk.locked_next = byte,
         17 => kiosk.valid_next = byte,
-        18 => heard.prevotes ^= marks,
-        19 => heard.precommits ^= marks,
-        20 => heard.proposal = byte,
-        21 => heard.proposal = byte % 4,
-        22 => heard.valid = byte,
+        18 => kiosk.prevotes[round] ^= marks,
+        19 => kiosk.precommits[round] ^= marks,
+        20 => kiosk.proposals[round] = byte,
+        21 => kiosk.proposals[round] = byte % 4,
+        22 => kiosk.valids[round] = byte,
         23 | 24 => {
             let place = bytes.pair() % flat::TABLE;
             if let Some(name) = lent.table.get_mut(place) {

@@ -3,7 +3,7 @@
 use crate::calls::{Lent, JUNK};
 use crate::inputs;
 use crate::random::Random;
-use flat::{Heard, Kiosk, BAD, GOOD, KIOSKS, TABLE};
+use flat::{Kiosk, BAD, GOOD, KIOSKS, ROUNDS, TABLE};
 use second::Input;
 
 const SIZES: [usize; 11] = [0, 1, 4, 7, 8, 31, 32, 33, 1_000, usize::MAX - 1, usize::MAX];
@@ -21,7 +21,7 @@ pub fn change(lent: &mut Lent, random: &mut Random) {
         random.pick(&[0, 40, 41, 42]),
     );
     let kiosk = &mut lent.kiosk;
-    let heard = &mut kiosk.log[random.below(16)];
+    let round = random.below(16);
     match random.below(24) {
         0 if random.once_in(4) => kiosk.kiosks = size,
         1 => kiosk.powers[random.below(32)] = random.pick(&[0, 1, 1_000, 1_001, u16::MAX]),
@@ -41,10 +41,10 @@ pub fn change(lent: &mut Lent, random: &mut Random) {
         11 => kiosk.backed = yes,
         12 => (kiosk.locked_next, kiosk.locked_name) = held,
         13 => (kiosk.valid_next, kiosk.valid_name) = held,
-        14 | 15 => heard.proposal = random.below(3) as u8,
-        16 => heard.valid = byte,
-        17 => heard.prevotes ^= marks,
-        18 => heard.precommits ^= marks,
+        14 | 15 => kiosk.proposals[round] = random.below(3) as u8,
+        16 => kiosk.valids[round] = byte,
+        17 => kiosk.prevotes[round] ^= marks,
+        18 => kiosk.precommits[round] ^= marks,
         19 => kiosk.used = size,
         20 => kiosk.last = size,
         21 => {
@@ -67,7 +67,7 @@ pub fn change(lent: &mut Lent, random: &mut Random) {
 pub fn unholdable(kiosk: &mut Kiosk, random: &mut Random) {
     let over = |random: &mut Random, most: u8| random.pick(&[most + 1, most + 2, 128, 255]);
     let flag = over(random, 1);
-    let heard = &mut kiosk.log[random.below(16)];
+    let round = random.below(16);
     match random.below(8) {
         0 => kiosk.phase = over(random, 2),
         1 => kiosk.step = over(random, 2),
@@ -75,7 +75,7 @@ pub fn unholdable(kiosk: &mut Kiosk, random: &mut Random) {
         3 => kiosk.asked_prevote = flag,
         4 => kiosk.asked_precommit = flag,
         5 => kiosk.backed = flag,
-        6 => heard.proposal = over(random, 2),
+        6 => kiosk.proposals[round] = over(random, 2),
         _ => {
             kiosk.phase = random.below(2) as u8;
             kiosk.settled = random.pick(&[1, 15, 16, 255]);
@@ -143,16 +143,14 @@ pub fn uniform(random: &mut Random) -> Lent {
         _ => random.pick(&[0, 1, 1, 2, 1_000]),
     });
     let mut table = vec![0; TABLE];
-    for (round, heard) in kiosk.log.iter_mut().enumerate() {
+    for round in 0..ROUNDS {
         if !random.once_in(quiet) {
             continue;
         }
-        *heard = Heard {
-            prevotes: (random.number() & random.number()) as u32 & seats,
-            precommits: (random.number() & random.number()) as u32 & seats,
-            proposal: byte(random, 2),
-            valid: byte(random, round),
-        };
+        kiosk.prevotes[round] = (random.number() & random.number()) as u32 & seats;
+        kiosk.precommits[round] = (random.number() & random.number()) as u32 & seats;
+        kiosk.proposals[round] = byte(random, 2);
+        kiosk.valids[round] = byte(random, round);
         table[65 * round..65 * (round + 1)].fill_with(|| random.pick(&[0, 40, 40, 41]));
     }
     let area = kiosk.used.min(1_000) + random.pick(&[0, 25, 26, 38, 50, 100]);
@@ -206,7 +204,7 @@ pub fn ripe(random: &mut Random) -> (Lent, Input) {
         table: vec![0; TABLE],
         journal: vec![JUNK; used + 98],
     };
-    for at in 0..16 {
+    for at in 0..ROUNDS {
         let near = at <= usize::from(round);
         if !near && !random.once_in(6) {
             continue;
@@ -215,12 +213,10 @@ pub fn ripe(random: &mut Random) -> (Lent, Input) {
             let (one, other) = (random.number() as u32, random.number() as u32);
             seats & if dense { one | other } else { one & other }
         };
-        lent.kiosk.log[at] = Heard {
-            prevotes: marks(near),
-            precommits: marks(false),
-            proposal: random.pick(&[0, 0, 0, 0, 0, 0, BAD, GOOD, GOOD]),
-            valid: random.below(at + 1) as u8,
-        };
+        lent.kiosk.prevotes[at] = marks(near);
+        lent.kiosk.precommits[at] = marks(false);
+        lent.kiosk.proposals[at] = random.pick(&[0, 0, 0, 0, 0, 0, BAD, GOOD, GOOD]);
+        lent.kiosk.valids[at] = random.below(at + 1) as u8;
         let names = &mut lent.table[65 * at..65 * (at + 1)];
         names.fill_with(|| random.pick(&[40, 40, 40, 40, 40, 40, 41, 0]));
         names[0] = names[0].max(40);

@@ -32,32 +32,33 @@ pub fn flat_state(state: &State) -> Kiosk {
         backed: state.backed.into(),
         locked_next: state.locked.next,
         valid_next: state.valid.next,
-        log: state.rounds.map(|heard| flat::Heard {
-            prevotes: heard.prevotes,
-            precommits: heard.precommits,
-            proposal: match (heard.proposal, heard.good) {
+        prevotes: state.rounds.map(|heard| heard.prevotes),
+        precommits: state.rounds.map(|heard| heard.precommits),
+        proposals: state
+            .rounds
+            .map(|heard| match (heard.proposal, heard.good) {
                 (false, _) => 0,
                 (true, false) => flat::BAD,
                 (true, true) => flat::GOOD,
-            },
-            valid: heard.valid,
-        }),
+            }),
+        valids: state.rounds.map(|heard| heard.valid),
     }
 }
 
 /// None where a number is one that second's state cannot hold: refusal 1.
 pub fn state(kiosk: &Kiosk) -> Option<State> {
     let mut rounds = State::unopened().rounds;
-    for (round, heard) in rounds.iter_mut().zip(&kiosk.log) {
-        if heard.proposal > flat::GOOD {
+    for (round, heard) in rounds.iter_mut().enumerate() {
+        let proposal = kiosk.proposals[round];
+        if proposal > flat::GOOD {
             return None;
         }
-        *round = Heard {
-            proposal: heard.proposal != 0,
-            good: heard.proposal == flat::GOOD,
-            valid: heard.valid,
-            prevotes: heard.prevotes,
-            precommits: heard.precommits,
+        *heard = Heard {
+            proposal: proposal != 0,
+            good: proposal == flat::GOOD,
+            valid: kiosk.valids[round],
+            prevotes: kiosk.prevotes[round],
+            precommits: kiosk.precommits[round],
         };
     }
     Some(State {

@@ -4,8 +4,8 @@ use crate::journal;
 use crate::rules::{self, place, PRECOMMITS, PREVOTES};
 use crate::rules::{proposer, Weights};
 use flat::{
-    Heard, Input, Kiosk, FRESH, GOOD, KIOSKS, PRECOMMIT, PREVOTE, PROPOSE, ROUNDS, RUNNING,
-    SETTLED, TABLE,
+    Input, Kiosk, BAD, FRESH, GOOD, KIOSKS, PRECOMMIT, PREVOTE, PROPOSE, ROUNDS, RUNNING, SETTLED,
+    TABLE,
 };
 
 const MAX_POWER: u16 = 1_000;
@@ -51,18 +51,20 @@ fn held_allowed(next: u8, name: u64, round: u8) -> bool {
 /// No mark past the roll, and each proposal one that can be.
 fn log_allowed(kiosk: &Kiosk, table: &[u64; TABLE]) -> bool {
     let off_roll = u32::MAX.checked_shl(kiosk.kiosks as u32).unwrap_or(0);
-    kiosk.log.iter().enumerate().all(|(round, heard)| {
-        (heard.prevotes | heard.precommits) & off_roll == 0
-            && heard.proposal <= GOOD
-            && (heard.proposal == 0
-                || (usize::from(heard.valid) <= round && table[place(round)] != 0))
-    })
+    let votes = kiosk.prevotes.iter().chain(&kiosk.precommits);
+    votes.fold(0, |all, marks| all | marks) & off_roll == 0
+        && (0..ROUNDS).all(|round| match kiosk.proposals[round] {
+            0 => true,
+            BAD | GOOD => usize::from(kiosk.valids[round]) <= round && table[place(round)] != 0,
+            _ => false,
+        })
 }
 
 fn untouched(kiosk: &Kiosk, table: &[u64; TABLE]) -> bool {
-    let silent = |heard: &Heard| u32::from(heard.proposal) | heard.prevotes | heard.precommits == 0;
     kiosk.round | kiosk.locked_next | kiosk.valid_next == 0
-        && kiosk.log.iter().all(silent)
+        && kiosk.prevotes == [0; ROUNDS]
+        && kiosk.precommits == [0; ROUNDS]
+        && kiosk.proposals == [0; ROUNDS]
         && table.iter().fold(0, |all, name| all | name) == 0
 }
 
@@ -87,23 +89,22 @@ pub fn refused(kiosk: &Kiosk, table: &[u64; TABLE], input: &Input) -> u32 {
             if seat == kiosk.own {
                 return 6;
             }
-            let heard = &kiosk.log[round];
             let (is_heard, same) = match input.kind {
                 2 => {
                     if seat != proposer(kiosk, round) {
                         return 7;
                     }
                     (
-                        heard.proposal != 0,
-                        table[place(round)] == input.name && heard.valid == input.valid,
+                        kiosk.proposals[round] != 0,
+                        table[place(round)] == input.name && kiosk.valids[round] == input.valid,
                     )
                 }
                 3 => (
-                    heard.prevotes >> seat & 1 == 1,
+                    kiosk.prevotes[round] >> seat & 1 == 1,
                     table[place(round) + PREVOTES + seat] == input.name,
                 ),
                 _ => (
-                    heard.precommits >> seat & 1 == 1,
+                    kiosk.precommits[round] >> seat & 1 == 1,
                     table[place(round) + PRECOMMITS + seat] == input.name,
                 ),
             };

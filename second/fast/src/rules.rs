@@ -78,7 +78,7 @@ pub enum Rule {
 /// The first rule that applies to a running kiosk.
 pub fn applies(kiosk: &Kiosk, table: &[u64; TABLE], weights: &Weights) -> Option<Rule> {
     let round = usize::from(kiosk.round);
-    let heard = &kiosk.log[round];
+    let proposal = kiosk.proposals[round];
     let sheet = table[place(round)];
     let prevotes_for = |round: usize, name| {
         let from = place(round) + PREVOTES;
@@ -86,44 +86,48 @@ pub fn applies(kiosk: &Kiosk, table: &[u64; TABLE], weights: &Weights) -> Option
             kiosk,
             table,
             weights.large,
-            kiosk.log[round].prevotes,
+            kiosk.prevotes[round],
             from,
             name,
         )
     };
     if kiosk.step == PROPOSE {
-        if heard.proposal != 0 {
-            if heard.valid == 0 {
+        if proposal != 0 {
+            let valid = kiosk.valids[round];
+            if valid == 0 {
                 return Some(Rule::L22);
             }
-            let vr = heard.valid - 1;
+            let vr = valid - 1;
             if prevotes_for(usize::from(vr), sheet) {
                 return Some(Rule::L28 { vr });
             }
         }
     } else {
         let prevote = kiosk.step == PREVOTE;
-        if prevote && kiosk.asked_prevote == 0 && power(kiosk, heard.prevotes) > weights.large {
+        if prevote
+            && kiosk.asked_prevote == 0
+            && power(kiosk, kiosk.prevotes[round]) > weights.large
+        {
             return Some(Rule::L34);
         }
-        if kiosk.backed == 0 && heard.proposal == GOOD && prevotes_for(round, sheet) {
+        if kiosk.backed == 0 && proposal == GOOD && prevotes_for(round, sheet) {
             return Some(Rule::L36);
         }
         if prevote && prevotes_for(round, 0) {
             return Some(Rule::L44);
         }
     }
-    if kiosk.asked_precommit == 0 && power(kiosk, heard.precommits) > weights.large {
+    if kiosk.asked_precommit == 0 && power(kiosk, kiosk.precommits[round]) > weights.large {
         return Some(Rule::L47);
     }
-    for (round, heard) in kiosk.log.iter().enumerate() {
+    for (round, &marks) in kiosk.precommits.iter().enumerate() {
         let from = place(round) + PRECOMMITS;
-        if heard.proposal == GOOD
+        if kiosk.proposals[round] == GOOD
             && large_for(
                 kiosk,
                 table,
                 weights.large,
-                heard.precommits,
+                marks,
                 from,
                 table[place(round)],
             )
@@ -131,9 +135,9 @@ pub fn applies(kiosk: &Kiosk, table: &[u64; TABLE], weights: &Weights) -> Option
             return Some(Rule::L49 { round });
         }
     }
-    for (round, heard) in kiosk.log.iter().enumerate().skip(round + 1).rev() {
-        let mut senders = heard.prevotes | heard.precommits;
-        if heard.proposal != 0 {
+    for round in (round + 1..ROUNDS).rev() {
+        let mut senders = kiosk.prevotes[round] | kiosk.precommits[round];
+        if kiosk.proposals[round] != 0 {
             senders |= 1 << proposer(kiosk, round);
         }
         if power(kiosk, senders) > weights.some {
@@ -188,17 +192,16 @@ impl<'a> Call<'a> {
                 self.start_round(0);
             }
             2 => {
-                let heard = &mut self.kiosk.log[round];
-                heard.proposal = BAD + input.verdict;
-                heard.valid = input.valid;
+                self.kiosk.proposals[round] = BAD + input.verdict;
+                self.kiosk.valids[round] = input.valid;
                 self.write(place(round), input.name);
             }
             3 => {
-                self.kiosk.log[round].prevotes |= mark;
+                self.kiosk.prevotes[round] |= mark;
                 self.write(place(round) + PREVOTES + seat, input.name);
             }
             4 => {
-                self.kiosk.log[round].precommits |= mark;
+                self.kiosk.precommits[round] |= mark;
                 self.write(place(round) + PRECOMMITS + seat, input.name);
             }
             5 => self.prevote(0),
@@ -286,21 +289,20 @@ impl<'a> Call<'a> {
             self.send(4, 0, 0);
             return;
         }
-        let heard = &mut self.kiosk.log[at];
-        heard.proposal = GOOD;
-        heard.valid = valid;
+        self.kiosk.proposals[at] = GOOD;
+        self.kiosk.valids[at] = valid;
         self.write(place(at), name);
         self.send(1, valid, name);
     }
 
     fn prevote_on(&mut self, free: bool, sheet: u64) {
-        let good = self.kiosk.log[usize::from(self.kiosk.round)].proposal == GOOD;
+        let good = self.kiosk.proposals[usize::from(self.kiosk.round)] == GOOD;
         self.prevote(if good && free { sheet } else { 0 });
     }
 
     fn prevote(&mut self, name: u64) {
         let (round, own) = (usize::from(self.kiosk.round), self.kiosk.own);
-        self.kiosk.log[round].prevotes |= 1 << own;
+        self.kiosk.prevotes[round] |= 1 << own;
         self.kiosk.step = PREVOTE;
         self.write(place(round) + PREVOTES + own, name);
         self.send(2, 0, name);
@@ -308,7 +310,7 @@ impl<'a> Call<'a> {
 
     fn precommit(&mut self, name: u64) {
         let (round, own) = (usize::from(self.kiosk.round), self.kiosk.own);
-        self.kiosk.log[round].precommits |= 1 << own;
+        self.kiosk.precommits[round] |= 1 << own;
         self.kiosk.step = PRECOMMIT;
         self.write(place(round) + PRECOMMITS + own, name);
         self.send(3, 0, name);

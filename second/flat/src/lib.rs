@@ -17,18 +17,9 @@ pub const PROPOSE: u8 = 0;
 pub const PREVOTE: u8 = 1;
 pub const PRECOMMIT: u8 = 2;
 
-/// What `Heard::proposal` says beside 0, that none is heard: one with verdict 0, and one with verdict 1.
+/// What `Kiosk::proposals` says beside 0, that none is heard: one with verdict 0, and one with verdict 1.
 pub const BAD: u8 = 1;
 pub const GOOD: u8 = 2;
-
-#[repr(C)]
-#[derive(Clone, Copy, Default, PartialEq, Eq, Debug)]
-pub struct Heard {
-    pub prevotes: u32,
-    pub precommits: u32,
-    pub proposal: u8,
-    pub valid: u8,
-}
 
 /// The default is the unopened state.
 #[repr(C)]
@@ -52,7 +43,10 @@ pub struct Kiosk {
     pub backed: u8,
     pub locked_next: u8,
     pub valid_next: u8,
-    pub log: [Heard; ROUNDS],
+    pub prevotes: [u32; ROUNDS],
+    pub precommits: [u32; ROUNDS],
+    pub proposals: [u8; ROUNDS],
+    pub valids: [u8; ROUNDS],
 }
 
 #[repr(C)]

@@ -1,8 +1,37 @@
--- `acts::doing::act` meets its contract: each arm is what its callee ensures. What is prevoted does not depend on what is sent. Assumes nothing.
+-- `acts::doing::act` meets its contract: each arm is what its callee ensures. What is prevoted goes by what is heard of the
+-- current round and the name of its proposal. Assumes nothing.
+use Prim.Native.Nat.{ℕ}
+use mathlib.Core.Path.{_≡_}
+use mathlib.Core.List.{List}
+use mathlib.Core.Bool.{_&&_, _||_}
+use native.Mathlib.Omega.{arith}
+use lib.ListN.{getD}
+use lib.Dec.{eqb, leb}
 use borrow.Author.Needs.{needs}
+use Rattle.words.specs.Choice.{if_then_else_}
+use Rattle.roll.specs.declared.Roll.{Roll}
+use Rattle.rules.specs.declared.Heard.{Heard}
+use Rattle.rules.specs.declared.Log.{Log}
+use Rattle.rules.specs.declared.Votes.{Votes}
+use Rattle.rules.specs.declared.Output.{Output}
+use Rattle.rules.specs.State.{state-of, good}
+use Rattle.rules.specs.Log.{proposal-place, told}
 use Rattle.rules.specs.Rules.{fire, vote-22, vote-28}
+use Rattle.rules.specs.Ready.{midway}
 use Rattle.acts.proofs.doing.act.Statement.{statement}
 use Rattle.acts.proofs.doing.act.Tie as tie
+
+prevotes-22 : (roll : Roll) (v : Votes) (l : Log) (t : List ℕ) (os : List Output) (h : Heard) (sheet : ℕ) →
+    h ≡ told l (v .stand .round .0) → sheet ≡ getD t (proposal-place (v .stand .round .0)) 0 →
+    (if good h && (eqb (v .locked .next) 0 || eqb (v .locked .name) sheet) then sheet else 0) ≡ vote-22 (midway (state-of roll v l) t os)
+unfolding vote-22
+prevotes-22 roll v l t os h sheet eh es = rw (eh, es)
+
+prevotes-28 : (roll : Roll) (v : Votes) (l : Log) (t : List ℕ) (os : List Output) (h : Heard) (sheet : ℕ) →
+    h ≡ told l (v .stand .round .0) → sheet ≡ getD t (proposal-place (v .stand .round .0)) 0 →
+    (if good h && (leb (v .locked .next) (h .valid) || eqb (v .locked .name) sheet) then sheet else 0) ≡ vote-28 (midway (state-of roll v l) t os)
+unfolding vote-28
+prevotes-28 roll v l t os h sheet eh es = rw (eh, es)
 
 enum-told : tie.Need-enum-told
 enum-told c = search needs
@@ -62,63 +91,71 @@ enum-known-rule-3 : tie.Need-enum-known-rule-3
 enum-known-rule-3 c = search needs
 
 start-round-requires : tie.Need-start-round-requires
-start-round-requires c κs = let p = c .before .before .before .before .pre in (rw (c .before .rule3 .given .1) at (p .1), p .0 .some-kiosks)
+start-round-requires c κs = let p = c .before .before .before .pre in (rw (c .before .rule3 .given .1) at (p .2), p .1)
 
 returns : tie.Need-returns
 unfolding fire
-returns c = (λ os. rw (c .before .enum-told .given .1, c .moving .ensures), rw (c .moving .ensures) (λ w. w))
+returns c = (λ l t os eh es. rw (c .before .enum-told .given .1, c .moving .ensures), rw (c .moving .ensures) (λ w. omega arith))
 
 returns-2 : tie.Need-returns-2
-unfolding fire vote-22
+unfolding fire
 returns-2 c =
-    let t = c .before .before .before .before .before .args .table .now in (
-      λ os. rw (c .before .before .enum-told2 .given .1) (rw (c .before .vote-22 .ensures) at (c .prevote .ensures .0 t os)),
-      c .prevote .ensures .1,
+    let a = c .before .before .before .before .args in (
+      λ l t os eh es.
+          rw (c .before .before .enum-told2 .given .1)
+          (rw (c .before .vote-22 .ensures, prevotes-22 (a .roll) (a .votes) l t os (a .h) (a .sheet) eh es) at (c .prevote .ensures .0 (a .roll) l t os)),
+      λ w. c .prevote .ensures .1,
     )
 
 returns-3 : tie.Need-returns-3
-unfolding fire vote-28
+unfolding fire
 returns-3 c =
-    let t = c .before .before .before .before .before .args .table .now in (
-      λ os. rw (c .before .before .enum-told3 .given .1) (rw (c .before .vote-28 .ensures) at (c .prevote2 .ensures .0 t os)),
-      c .prevote2 .ensures .1,
+    let a = c .before .before .before .before .args in (
+      λ l t os eh es.
+          rw (c .before .before .enum-told3 .given .1)
+          (rw (c .before .vote-28 .ensures, prevotes-28 (a .roll) (a .votes) l t os (a .h) (a .sheet) eh es) at (c .prevote2 .ensures .0 (a .roll) l t os)),
+      λ w. c .prevote2 .ensures .1,
     )
 
 returns-4 : tie.Need-returns-4
 unfolding fire
 returns-4 c =
-    let t = c .before .before .before .before .args .table .now in
-    (λ os. rw (c .before .enum-told4 .given .1) (c .ask-prevote .ensures .0 t os), c .ask-prevote .ensures .1)
+    let roll = c .before .before .before .args .roll in
+    (λ l t os eh es. rw (c .before .enum-told4 .given .1) (c .ask-prevote .ensures .0 roll l t os), λ w. c .ask-prevote .ensures .1)
 
 returns-5 : tie.Need-returns-5
 unfolding fire
 returns-5 c =
-    let t = c .before .before .before .before .before .args .table .now in
-    (λ os. rw (c .before .before .rule .given .1) (c .back .ensures .0 t os), c .back .ensures .1)
+    let roll = c .before .before .before .before .args .roll in
+    (λ l t os eh es. rw (c .before .before .rule .given .1) (c .back .ensures .0 roll l t os), λ w. c .back .ensures .1)
 
 returns-6 : tie.Need-returns-6
 unfolding fire
 returns-6 c =
-    let t = c .before .before .before .before .args .table .now in
-    (λ os. rw (c .before .enum-told5 .given .1) (c .precommit .ensures .0 t os), c .precommit .ensures .1)
+    let roll = c .before .before .before .args .roll in
+    (λ l t os eh es. rw (c .before .enum-told5 .given .1) (c .precommit .ensures .0 roll l t os), λ w. c .precommit .ensures .1)
 
 returns-7 : tie.Need-returns-7
 unfolding fire
 returns-7 c =
-    let t = c .before .before .before .before .args .table .now in
-    (λ os. rw (c .before .enum-told6 .given .1) (c .ask-precommit .ensures .0 t os), c .ask-precommit .ensures .1)
+    let roll = c .before .before .before .args .roll in
+    (λ l t os eh es. rw (c .before .enum-told6 .given .1) (c .ask-precommit .ensures .0 roll l t os), λ w. c .ask-precommit .ensures .1)
 
 returns-8 : tie.Need-returns-8
 unfolding fire
 returns-8 c =
-    let t = c .before .before .before .before .before .args .table .now in
-    (λ os. rw (c .before .before .rule2 .given .1) (c .settle .ensures .0 t os), c .settle .ensures .1)
+    let roll = c .before .before .before .before .args .roll in
+    let which = c .before .before .rule2 .given .1 in (
+      λ l t os eh es. rw which (c .settle .ensures .0 roll l t os),
+      λ w. rw (c .settle .ensures .1) (rw which at (c .before .before .before .before .pre .2)),
+    )
 
 returns-9 : tie.Need-returns-9
 unfolding fire
-returns-9 c =
-    let t = c .before .before .before .before .before .args .table .now in
-    (λ os. rw (c .before .before .rule3 .given .1) (c .start-round .ensures .0 t os), c .start-round .ensures .1)
+returns-9 c = (
+  λ l t os eh es. rw (c .before .before .rule3 .given .1) (c .start-round .ensures .0 l t os),
+  λ w. c .start-round .ensures .1,
+)
 
 pub act-spec : {M : Type 1} → statement M
 act-spec =

@@ -1,5 +1,4 @@
--- `acts::doing::ask_precommit` meets its contract: the state built is the one with its timer asked for, and the output is the same. Assumes nothing.
-use mathlib.Core.Path.{refl}
+-- `acts::doing::ask_precommit` meets its contract: the votes built are those with the timer asked for, and the output is the same. Assumes nothing.
 use borrow.Author.Needs.{needs}
 use Rattle.rules.specs.Doing.{ask-precommit}
 use Rattle.acts.proofs.doing.ask_precommit.Statement.{statement}
@@ -8,12 +7,14 @@ use Rattle.acts.proofs.doing.ask_precommit.Tie as tie
 with-asked-requires : tie.Need-with-asked-requires
 with-asked-requires c κs = search needs
 
-sending-requires : tie.Need-sending-requires
-sending-requires c κs = search needs
+saying-requires : tie.Need-saying-requires
+saying-requires c κs = search needs
 
 returns : tie.Need-returns
 unfolding ask-precommit
-returns c = (λ t os. rw (c .sending .ensures, c .before .with-asked .ensures), rw (c .sending .ensures) (λ w. refl))
+returns c =
+    let e = c .before .with-asked .ensures in
+    (λ roll l t os. rw (c .saying .ensures, e), rw (c .saying .ensures, e) (c .before .before .pre))
 
 pub ask-precommit-spec : {M : Type 1} → statement M
-ask-precommit-spec = tie.close (tie.spec with-asked-requires sending-requires returns)
+ask-precommit-spec = tie.close (tie.spec with-asked-requires saying-requires returns)

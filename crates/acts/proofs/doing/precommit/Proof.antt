@@ -1,42 +1,21 @@
--- `acts::doing::precommit` meets its contract: the precommit is put in the log and the table, and sent, and the step is the next. Assumes nothing.
-use mathlib.Core.Path.{refl}
+-- `acts::doing::precommit` meets its contract: the precommit is sent, and goes in the own log, and the step is the next. Assumes nothing.
 use borrow.Author.Needs.{needs}
 use Rattle.rules.specs.Log.{hear-precommit}
 use Rattle.rules.specs.Doing.{precommit}
 use Rattle.acts.proofs.doing.precommit.Statement.{statement}
 use Rattle.acts.proofs.doing.precommit.Tie as tie
 
-hear-precommit-requires : tie.Need-hear-precommit-requires
-hear-precommit-requires c κs = search needs
-
 at-step-requires : tie.Need-at-step-requires
 at-step-requires c κs = search needs
-
-precommits-place-requires : tie.Need-precommits-place-requires
-precommits-place-requires c κs = search needs
-
-add-saying : tie.Need-add-saying
-add-saying c = search needs
 
 saying-requires : tie.Need-saying-requires
 saying-requires c κs = search needs
 
 returns : tie.Need-returns
 unfolding precommit hear-precommit
-returns c = (
-  λ t os.
-      let name = c .before .before .before .before .before .args .name in
-      rw (c .saying .ensures, c .before .before .at-step .ensures, c .before .before .before .hear-precommit .ensures t os name, c .before .precommits-place .ensures),
-  rw (c .saying .ensures) (λ w. refl),
-)
+returns c =
+    let e = c .before .at-step .ensures in
+    (λ roll l t os. rw (c .saying .ensures, e), rw (c .saying .ensures, e) (c .before .before .pre))
 
 pub precommit-spec : {M : Type 1} → statement M
-precommit-spec =
-    tie.close
-    (tie.spec
-    hear-precommit-requires
-    at-step-requires
-    precommits-place-requires
-    add-saying
-    saying-requires
-    returns)
+precommit-spec = tie.close (tie.spec at-step-requires saying-requires returns)

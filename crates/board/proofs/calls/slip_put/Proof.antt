@@ -15,17 +15,20 @@ impossible-requires c κs = search needs
 returns : tie.Need-returns
 returns c = says-1 _ _ _ _ _ (sym (c .before .before .holds .ensures) ∙ not-true _ (c .before .if1 .taken)) (c .impossible .ensures)
 
-kiosk-of-requires : tie.Need-kiosk-of-requires
-kiosk-of-requires c κs = search needs
+roll-of-requires : tie.Need-roll-of-requires
+roll-of-requires c κs = search needs
+
+votes-of-requires : tie.Need-votes-of-requires
+votes-of-requires c κs = search needs
 
 input-of-requires : tie.Need-input-of-requires
 input-of-requires c κs = search needs
 
-put-requires : tie.Need-put-requires
-put-requires c κs = search needs
+put-lent-requires : tie.Need-put-lent-requires
+put-lent-requires c κs = search needs
 
-flat-reply-requires : tie.Need-flat-reply-requires
-flat-reply-requires c κs = search needs
+flat-done-requires : tie.Need-flat-done-requires
+flat-done-requires c κs = search needs
 
 same-length : tie.Need-same-length
 same-length c = search needs
@@ -34,7 +37,17 @@ same-length-2 : tie.Need-same-length-2
 same-length-2 c = search needs
 
 returns-2 : tie.Need-returns-2
-returns-2 c = says _ _ _ _ _ _ _ _ (sym (c .before .before .before .before .before .before .before .before .before .before .before .holds .ensures) ∙ not-false _ (c .before .before .before .before .before .before .before .before .before .before .if1 .left)) (rw (c .before .before .before .before .before .before .before .before .input-of .ensures, c .before .before .before .before .before .before .before .before .before .kiosk-of .ensures) at (c .before .before .before .before .before .put .ensures)) (c .flat-reply .ensures)
+returns-2 c =
+    let lent = c .before .before .before .before .before in
+    let twins = lent .before .before .before .before .before .before .before in
+    let roll = twins .before .before .before .before .before .before in
+    says _ _ _ _ _ _ _ _ _ _ _
+    (sym (roll .before .before .holds .ensures) ∙ not-false _ (roll .before .if1 .left))
+    (twins .input-of .ensures)
+    (roll .roll-of .ensures)
+    (twins .before .votes-of .ensures)
+    (lent .put-lent .ensures)
+    (c .flat-done .ensures)
 
 pub slip-put-spec : {M : Type 1} → statement M
 slip-put-spec =
@@ -43,10 +56,11 @@ slip-put-spec =
     holds-requires
     impossible-requires
     returns
-    kiosk-of-requires
+    roll-of-requires
+    votes-of-requires
     input-of-requires
-    put-requires
-    flat-reply-requires
+    put-lent-requires
+    flat-done-requires
     same-length
     same-length-2
     returns-2)

@@ -33,18 +33,12 @@ returns-4 : tie.Need-returns-4
 unfolding kiosk-number
 returns-4 c = rw (ne-eqb _ 7 (c .before .before .if1 .left), le-ltb _ 18 (c .before .if3 .left), le-ltb _ 16 (c .if4 .taken))
 
-mul-heard-number : tie.Need-mul-heard-number
-mul-heard-number c = search needs
-
-array-copy-out-heard-number : tie.Need-array-copy-out-heard-number
-array-copy-out-heard-number c = search needs
-
-heard-number-requires : tie.Need-heard-number-requires
-heard-number-requires c κs = search needs
+log-number-requires : tie.Need-log-number-requires
+log-number-requires c κs = search needs
 
 returns-5 : tie.Need-returns-5
 unfolding kiosk-number
-returns-5 c = rw (ne-eqb _ 7 (c .before .before .before .before .before .if1 .left), le-ltb _ 18 (c .before .before .before .before .if3 .left), lt-ltb _ 16 (c .before .before .before .if4 .left)) (c .heard-number .ensures)
+returns-5 c = rw (ne-eqb _ 7 (c .before .before .before .if1 .left), le-ltb _ 18 (c .before .before .if3 .left), lt-ltb _ 16 (c .before .if4 .left)) (c .log-number .ensures)
 
 pub slip-kiosk-number-spec : {M : Type 1} → statement M
 slip-kiosk-number-spec =
@@ -58,7 +52,5 @@ slip-kiosk-number-spec =
     plain-number-requires
     returns-3
     returns-4
-    mul-heard-number
-    array-copy-out-heard-number
-    heard-number-requires
+    log-number-requires
     returns-5)

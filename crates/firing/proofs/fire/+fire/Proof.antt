@@ -1,300 +1,284 @@
--- `firing::fire::fire` meets its contract: each return, and each call of a turn, by the laws of firing. Assumes nothing.
-use mathlib.Core.Path.{refl, _∙_}
+-- `firing::fire::fire` meets its contract: each call of a turn, and each return, by the laws of firing. Assumes nothing.
+use mathlib.Core.Path.{_∙_}
+use mathlib.Core.Bool.{false≢true}
 use native.Mathlib.Omega.{arith}
+use Rattle.words.proofs.Choice.{by-cases}
+use Rattle.firing.proofs.Fires.{first-fits, own-seat, says-there, applies, room-to-send, room-to-say, firing-next, ends-last, ends-quiet, fires-on, leaves-on}
 use Prim.Native.Nat.{ℕ, _<_}
 use borrow.Fn.Kinds.{In}
 use borrow.Fn.PlainCycle.{Measures, is, falls, and}
-use Rattle.rules.proofs.Sent.send.Reads as send-reads
-use Rattle.rules.proofs.tests.is_rule.Reads as is-rule-reads
-use Rattle.applies.proofs.when.first_rule.Reads as first-rule-reads
-use Rattle.acts.proofs.doing.act.Reads as act-reads
-use Rattle.firing.proofs.Fires.{first-fits, ends-none-left, ends-no-rule, room-to-send, room-to-write, total-next, firing-next, leaves-next}
 use Rattle.firing.proofs.fire.fire.Reads as fire
 use Rattle.firing.proofs.fire.fire.Kinds as fire-kinds
 use Rattle.firing.proofs.fire.+fire.Lts-fire as fire-lts
-use Rattle.firing.proofs.Trail.keep.Reads as keep-reads
-use Rattle.firing.proofs.fire.write_if.Reads as write-if-reads
+use Rattle.applies.proofs.when.first_rule.Reads as first-rule-reads
+use Rattle.firing.proofs.fire.act_on.Reads as act-on-reads
+use Rattle.firing.proofs.fire.hear_own.Reads as hear-own-reads
+use Rattle.rules.proofs.Sent.send.Reads as send-reads
+use Rattle.rules.proofs.tests.is_rule.Reads as is-rule-reads
 use Rattle.firing.proofs.fire.+fire.{statement}
 use Rattle.firing.proofs.fire.+fire.Tie.{close}
 
-abbrev μ-fire : Measures 1 fire-kinds.ps ℕ
-μ-fire κs a = a .1 .1 .1 .1 .1 .1 .0
+abbrev μ-fire : Measures 7 fire-kinds.ps ℕ
+μ-fire κs a = a .1 .1 .1 .1 .1 .1 .1 .1 .1 .0
 
-abbrev fire-at : ℕ → In 1 fire-kinds.ps
-fire-at t = and 1 fire-kinds.ps (is 1 fire-kinds.ps μ-fire t) fire.Pre
+abbrev fire-at : ℕ → In 7 fire-kinds.ps
+fire-at t = and 7 fire-kinds.ps (is 7 fire-kinds.ps μ-fire t) fire.Pre
 
-abbrev fire-below : ℕ → In 1 fire-kinds.ps
-fire-below t = and 1 fire-kinds.ps (falls 1 fire-kinds.ps _<_ μ-fire t) fire.Pre
+abbrev fire-below : ℕ → In 7 fire-kinds.ps
+fire-below t = and 7 fire-kinds.ps (falls 7 fire-kinds.ps _<_ μ-fire t) fire.Pre
+
+fire-act-on-requires : (t : ℕ) → fire-lts.Need-act-on-requires (
+  act-on-reads.Asked,
+  act-on-reads.Learnt,
+  hear-own-reads.Asked,
+  hear-own-reads.Learnt,
+  send-reads.Asked,
+  send-reads.Learnt,
+  first-rule-reads.Asked,
+  first-rule-reads.Learnt,
+  is-rule-reads.Asked,
+  is-rule-reads.Learnt,
+  fire-below t,
+  fire.Post,
+) (fire-at t) fire.Post
+fire-act-on-requires t c κs = (c .before .before .before .before .before .before .pre .1 .0 .ready, rw (c .before .before .before .before .before .before .pre .1 .1) (first-fits _ _))
+
+fire-hear-own-requires : (t : ℕ) → fire-lts.Need-hear-own-requires (
+  act-on-reads.Asked,
+  act-on-reads.Learnt,
+  hear-own-reads.Asked,
+  hear-own-reads.Learnt,
+  send-reads.Asked,
+  send-reads.Learnt,
+  first-rule-reads.Asked,
+  first-rule-reads.Learnt,
+  is-rule-reads.Asked,
+  is-rule-reads.Learnt,
+  fire-below t,
+  fire.Post,
+) (fire-at t) fire.Post
+fire-hear-own-requires t c κs = (
+  says-there (c .before .before .before .before .before .before .before .before .before .before .before .act-on .result) (c .before .before .before .before .before .before .before .before .before .before .before .act-on .ensures .1),
+  own-seat _ _ (c .before .before .before .before .before .before .before .before .before .before .before .before .before .before .before .before .before .before .pre .1 .0 .ready),
+  room-to-say (c .before .before .before .before .before .before .before .before .before .before .before .before .before .before .before .before .before .before .args .left) _ _ _ _ _ _ _ _ (c .before .before .before .before .before .before .before .before .before .before .before .act-on .result) (c .before .before .before .before .before .before .before .before .before .before .before .before .before .before .before .before .before .before .pre .1 .0) (c .before .before .before .before .before .before .before .before .before .before .before .before .before .before .before .before .before .before .pre .1 .1) (c .before .before .before .before .before .before .before .before .before .before .before .before .before .before .before .before .before .before .pre .1 .2) (c .before .before .before .before .before .before .before .before .before .before .before .act-on .ensures .0),
+  c .before .before .before .before .before .before .before .before .before .before .before .before .before .before .before .before .before .before .pre .1 .0 .long,
+  c .before .before .before .before .before .before .before .before .before .before .before .before .before .before .before .before .before .before .pre .1 .0 .ready .places,
+)
+
+fire-send-requires : (t : ℕ) → fire-lts.Need-send-requires (
+  act-on-reads.Asked,
+  act-on-reads.Learnt,
+  hear-own-reads.Asked,
+  hear-own-reads.Learnt,
+  send-reads.Asked,
+  send-reads.Learnt,
+  first-rule-reads.Asked,
+  first-rule-reads.Learnt,
+  is-rule-reads.Asked,
+  is-rule-reads.Learnt,
+  fire-below t,
+  fire.Post,
+) (fire-at t) fire.Post
+fire-send-requires t c κs =
+    by-cases (c .before .before .before .before .before .before .before .before .before .before .before .before .before .before .act-on .result .sends)
+    (λ on w. room-to-send (c .before .before .before .before .before .before .before .before .before .before .before .before .before .before .before .before .before .before .before .before .before .args .left) _ _ _ _ _ _ _ _ (c .before .before .before .before .before .before .before .before .before .before .before .before .before .before .act-on .result) (c .before .before .before .before .before .before .before .before .before .before .before .before .before .before .before .before .before .before .before .before .before .pre .1 .0) (c .before .before .before .before .before .before .before .before .before .before .before .before .before .before .before .before .before .before .before .before .before .pre .1 .1) (c .before .before .before .before .before .before .before .before .before .before .before .before .before .before .before .before .before .before .before .before .before .pre .1 .2) (c .before .before .before .before .before .before .before .before .before .before .before .before .before .before .act-on .ensures .0) on)
+    (λ off. rw off (λ w. absurd (false≢true w)))
+
+fire-same-length : (t : ℕ) → fire-lts.Need-same-length (
+  act-on-reads.Asked,
+  act-on-reads.Learnt,
+  hear-own-reads.Asked,
+  hear-own-reads.Learnt,
+  send-reads.Asked,
+  send-reads.Learnt,
+  first-rule-reads.Asked,
+  first-rule-reads.Learnt,
+  is-rule-reads.Asked,
+  is-rule-reads.Learnt,
+  fire-below t,
+  fire.Post,
+) (fire-at t) fire.Post
+fire-same-length t c = c .before .before .before .before .hear-own .kept .1 .1 .1 .1 .1 .1 .1 .1 .1 .1 .0
 
 fire-returns : (t : ℕ) → fire-lts.Need-returns (
+  act-on-reads.Asked,
+  act-on-reads.Learnt,
+  hear-own-reads.Asked,
+  hear-own-reads.Learnt,
+  send-reads.Asked,
+  send-reads.Learnt,
   first-rule-reads.Asked,
   first-rule-reads.Learnt,
   is-rule-reads.Asked,
   is-rule-reads.Learnt,
-  act-reads.Asked,
-  act-reads.Learnt,
-  keep-reads.Asked,
-  keep-reads.Learnt,
-  write-if-reads.Asked,
-  write-if-reads.Learnt,
-  send-reads.Asked,
-  send-reads.Learnt,
   fire-below t,
   fire.Post,
 ) (fire-at t) fire.Post
-fire-returns t c = ends-none-left _ _ _ _ _ _ (c .before .before .pre .1 .0) (c .if1 .taken)
+fire-returns t c = ends-last (c .before .before .before .before .before .before .before .before .before .before .before .before .before .before .before .before .before .before .before .before .before .before .before .args .left) _ _ _ _ _ _ _ _ (c .before .before .before .before .before .before .before .before .before .before .before .before .before .before .before .before .act-on .result) (c .before .before .before .before .before .before .before .before .before .before .before .before .before .before .before .before .before .before .before .before .before .before .before .pre .1 .0) (c .before .before .before .before .before .before .before .before .before .before .before .before .before .before .before .before .before .before .before .before .before .before .before .pre .1 .1) (c .before .before .before .before .before .before .before .before .before .before .before .before .before .before .before .before .before .before .before .before .before .before .before .pre .1 .2) (c .before .before .before .before .before .before .before .before .before .before .before .before .before .before .before .before .act-on .ensures .0) (c .before .before .before .before .hear-own .ensures) (c .before .send .ensures) (c .if1 .taken)
 
 fire-first-rule-requires : (t : ℕ) → fire-lts.Need-first-rule-requires (
+  act-on-reads.Asked,
+  act-on-reads.Learnt,
+  hear-own-reads.Asked,
+  hear-own-reads.Learnt,
+  send-reads.Asked,
+  send-reads.Learnt,
   first-rule-reads.Asked,
   first-rule-reads.Learnt,
   is-rule-reads.Asked,
   is-rule-reads.Learnt,
-  act-reads.Asked,
-  act-reads.Learnt,
-  keep-reads.Asked,
-  keep-reads.Learnt,
-  write-if-reads.Asked,
-  write-if-reads.Learnt,
-  send-reads.Asked,
-  send-reads.Learnt,
   fire-below t,
   fire.Post,
 ) (fire-at t) fire.Post
-fire-first-rule-requires t c κs = (c .before .before .before .pre .1 .0 .ready, c .before .before .before .pre .1 .1)
+fire-first-rule-requires t c κs = (firing-next (c .before .before .before .before .before .before .before .before .before .before .before .before .before .before .before .before .before .before .before .before .before .before .before .before .before .before .before .before .args .left) _ _ _ _ _ _ _ _ (c .before .before .before .before .before .before .before .before .before .before .before .before .before .before .before .before .before .before .before .before .before .act-on .result) (c .before .before .before .before .before .before .before .before .before .before .before .before .before .before .before .before .before .before .before .before .before .before .before .before .before .before .before .before .pre .1 .0) (c .before .before .before .before .before .before .before .before .before .before .before .before .before .before .before .before .before .before .before .before .before .before .before .before .before .before .before .before .pre .1 .1) (c .before .before .before .before .before .before .before .before .before .before .before .before .before .before .before .before .before .before .before .before .before .before .before .before .before .before .before .before .pre .1 .2) (c .before .before .before .before .before .before .before .before .before .before .before .before .before .before .before .before .before .before .before .before .before .act-on .ensures .0) (c .before .before .before .before .before .before .before .before .before .hear-own .ensures) (c .before .before .before .before .before .before .send .ensures) .ready, c .before .before .before .before .before .before .before .before .before .before .before .before .before .before .before .before .before .before .before .before .before .before .before .before .before .before .before .before .pre .1 .3)
 
 fire-is-rule-requires : (t : ℕ) → fire-lts.Need-is-rule-requires (
+  act-on-reads.Asked,
+  act-on-reads.Learnt,
+  hear-own-reads.Asked,
+  hear-own-reads.Learnt,
+  send-reads.Asked,
+  send-reads.Learnt,
   first-rule-reads.Asked,
   first-rule-reads.Learnt,
   is-rule-reads.Asked,
   is-rule-reads.Learnt,
-  act-reads.Asked,
-  act-reads.Learnt,
-  keep-reads.Asked,
-  keep-reads.Learnt,
-  write-if-reads.Asked,
-  write-if-reads.Learnt,
-  send-reads.Asked,
-  send-reads.Learnt,
   fire-below t,
   fire.Post,
 ) (fire-at t) fire.Post
 fire-is-rule-requires t c κs = tt
 
-fire-same-length : (t : ℕ) → fire-lts.Need-same-length (
+fire-same-length-2 : (t : ℕ) → fire-lts.Need-same-length-2 (
+  act-on-reads.Asked,
+  act-on-reads.Learnt,
+  hear-own-reads.Asked,
+  hear-own-reads.Learnt,
+  send-reads.Asked,
+  send-reads.Learnt,
   first-rule-reads.Asked,
   first-rule-reads.Learnt,
   is-rule-reads.Asked,
   is-rule-reads.Learnt,
-  act-reads.Asked,
-  act-reads.Learnt,
-  keep-reads.Asked,
-  keep-reads.Learnt,
-  write-if-reads.Asked,
-  write-if-reads.Learnt,
-  send-reads.Asked,
-  send-reads.Learnt,
   fire-below t,
   fire.Post,
 ) (fire-at t) fire.Post
-fire-same-length t c = refl
+fire-same-length-2 t c = c .before .before .before .before .before .before .before .before .before .before .before .before .hear-own .kept .1 .1 .1 .1 .1 .1 .1 .1 .1 .1 .0
 
 fire-returns-2 : (t : ℕ) → fire-lts.Need-returns-2 (
+  act-on-reads.Asked,
+  act-on-reads.Learnt,
+  hear-own-reads.Asked,
+  hear-own-reads.Learnt,
+  send-reads.Asked,
+  send-reads.Learnt,
   first-rule-reads.Asked,
   first-rule-reads.Learnt,
   is-rule-reads.Asked,
   is-rule-reads.Learnt,
-  act-reads.Asked,
-  act-reads.Learnt,
-  keep-reads.Asked,
-  keep-reads.Learnt,
-  write-if-reads.Asked,
-  write-if-reads.Learnt,
-  send-reads.Asked,
-  send-reads.Learnt,
   fire-below t,
   fire.Post,
 ) (fire-at t) fire.Post
-fire-returns-2 t c = ends-no-rule _ _ _ _ _ _ _ (c .before .before .before .before .before .before .pre .1 .0) (c .before .before .first-rule .ensures) (c .before .is-rule .ensures) (c .if2 .taken)
-
-fire-act-requires : (t : ℕ) → fire-lts.Need-act-requires (
-  first-rule-reads.Asked,
-  first-rule-reads.Learnt,
-  is-rule-reads.Asked,
-  is-rule-reads.Learnt,
-  act-reads.Asked,
-  act-reads.Learnt,
-  keep-reads.Asked,
-  keep-reads.Learnt,
-  write-if-reads.Asked,
-  write-if-reads.Learnt,
-  send-reads.Asked,
-  send-reads.Learnt,
-  fire-below t,
-  fire.Post,
-) (fire-at t) fire.Post
-fire-act-requires t c κs = (c .before .before .before .before .before .before .before .pre .1 .0 .ready, rw (c .before .before .before .first-rule .ensures) (first-fits _ _))
-
-fire-keep-requires : (t : ℕ) → fire-lts.Need-keep-requires (
-  first-rule-reads.Asked,
-  first-rule-reads.Learnt,
-  is-rule-reads.Asked,
-  is-rule-reads.Learnt,
-  act-reads.Asked,
-  act-reads.Learnt,
-  keep-reads.Asked,
-  keep-reads.Learnt,
-  write-if-reads.Asked,
-  write-if-reads.Learnt,
-  send-reads.Asked,
-  send-reads.Learnt,
-  fire-below t,
-  fire.Post,
-) (fire-at t) fire.Post
-fire-keep-requires t c κs = room-to-write _ _ _ _ _ _ _ _ (c .before .before .before .before .before .before .before .before .before .before .pre .1 .0) (c .before .before .before .before .before .before .before .before .if1 .left) (c .before .before .before .before .before .before .first-rule .ensures) (c .before .before .before .before .before .is-rule .ensures) (c .before .before .before .before .if2 .left) (c .before .before .act .ensures .0) (c .before .before .act .ensures .1)
-
-fire-write-if-requires : (t : ℕ) → fire-lts.Need-write-if-requires (
-  first-rule-reads.Asked,
-  first-rule-reads.Learnt,
-  is-rule-reads.Asked,
-  is-rule-reads.Learnt,
-  act-reads.Asked,
-  act-reads.Learnt,
-  keep-reads.Asked,
-  keep-reads.Learnt,
-  write-if-reads.Asked,
-  write-if-reads.Learnt,
-  send-reads.Asked,
-  send-reads.Learnt,
-  fire-below t,
-  fire.Post,
-) (fire-at t) fire.Post
-fire-write-if-requires t c κs = tt
-
-fire-send-requires : (t : ℕ) → fire-lts.Need-send-requires (
-  first-rule-reads.Asked,
-  first-rule-reads.Learnt,
-  is-rule-reads.Asked,
-  is-rule-reads.Learnt,
-  act-reads.Asked,
-  act-reads.Learnt,
-  keep-reads.Asked,
-  keep-reads.Learnt,
-  write-if-reads.Asked,
-  write-if-reads.Learnt,
-  send-reads.Asked,
-  send-reads.Learnt,
-  fire-below t,
-  fire.Post,
-) (fire-at t) fire.Post
-fire-send-requires t c κs = room-to-send _ _ _ _ _ _ _ _ (c .before .before .before .before .before .before .before .before .before .before .before .before .before .before .before .pre .1 .0) (c .before .before .before .before .before .before .before .before .before .before .before .before .before .if1 .left) (c .before .before .before .before .before .before .before .before .before .before .before .first-rule .ensures) (c .before .before .before .before .before .before .before .before .before .before .is-rule .ensures) (c .before .before .before .before .before .before .before .before .before .if2 .left) (c .before .before .before .before .before .before .before .act .ensures .0) (c .before .before .before .before .before .before .before .act .ensures .1)
+fire-returns-2 t c = ends-quiet (c .before .before .before .before .before .before .before .before .before .before .before .before .before .before .before .before .before .before .before .before .before .before .before .before .before .before .before .before .before .before .before .args .left) _ _ _ _ _ _ _ _ (c .before .before .before .before .before .before .before .before .before .before .before .before .before .before .before .before .before .before .before .before .before .before .before .before .act-on .result) (c .before .before .before .before .before .before .before .before .before .before .before .before .before .before .before .before .before .before .before .before .before .before .before .before .before .before .before .before .before .before .before .pre .1 .0) (c .before .before .before .before .before .before .before .before .before .before .before .before .before .before .before .before .before .before .before .before .before .before .before .before .before .before .before .before .before .before .before .pre .1 .1) (c .before .before .before .before .before .before .before .before .before .before .before .before .before .before .before .before .before .before .before .before .before .before .before .before .before .before .before .before .before .before .before .pre .1 .2) (c .before .before .before .before .before .before .before .before .before .before .before .before .before .before .before .before .before .before .before .before .before .before .before .before .act-on .ensures .0) (c .before .before .before .before .before .before .before .before .before .before .before .before .hear-own .ensures) (c .before .before .before .before .before .before .before .before .before .send .ensures) _ (c .before .before .first-rule .ensures) (c .before .is-rule .ensures) (c .if2 .taken)
 
 fire-sub-fire : (t : ℕ) → fire-lts.Need-sub-fire (
+  act-on-reads.Asked,
+  act-on-reads.Learnt,
+  hear-own-reads.Asked,
+  hear-own-reads.Learnt,
+  send-reads.Asked,
+  send-reads.Learnt,
   first-rule-reads.Asked,
   first-rule-reads.Learnt,
   is-rule-reads.Asked,
   is-rule-reads.Learnt,
-  act-reads.Asked,
-  act-reads.Learnt,
-  keep-reads.Asked,
-  keep-reads.Learnt,
-  write-if-reads.Asked,
-  write-if-reads.Learnt,
-  send-reads.Asked,
-  send-reads.Learnt,
   fire-below t,
   fire.Post,
 ) (fire-at t) fire.Post
-fire-sub-fire t c = omega (arith, c .before .before .before .before .before .before .before .before .before .before .before .before .before .before .before .if1 .left)
+fire-sub-fire t c = omega (arith, c .before .before .before .before .before .before .before .before .before .before .if1 .left)
 
 fire-fire-requires : (t : ℕ) → fire-lts.Need-fire-requires (
+  act-on-reads.Asked,
+  act-on-reads.Learnt,
+  hear-own-reads.Asked,
+  hear-own-reads.Learnt,
+  send-reads.Asked,
+  send-reads.Learnt,
   first-rule-reads.Asked,
   first-rule-reads.Learnt,
   is-rule-reads.Asked,
   is-rule-reads.Learnt,
-  act-reads.Asked,
-  act-reads.Learnt,
-  keep-reads.Asked,
-  keep-reads.Learnt,
-  write-if-reads.Asked,
-  write-if-reads.Learnt,
-  send-reads.Asked,
-  send-reads.Learnt,
   fire-below t,
   fire.Post,
 ) (fire-at t) fire.Post
 fire-fire-requires t c κs = (
-  omega (arith, c .before .before .before .before .before .before .before .before .before .before .before .before .before .before .before .if1 .left, c .before .before .before .before .before .before .before .before .before .before .before .before .before .before .before .before .before .pre .0),
+  omega (arith, c .before .before .before .before .before .before .before .before .before .before .before .before .before .before .before .if1 .left, c .before .before .before .before .before .before .before .before .before .before .before .before .before .before .before .before .before .before .before .before .before .before .before .before .before .before .before .before .before .before .before .before .before .before .before .before .before .before .pre .0),
   (
-    firing-next _ _ _ _ _ _ _ _ (c .before .before .before .before .before .before .before .before .before .before .before .before .before .before .before .before .before .pre .1 .0) (c .before .before .before .before .before .before .before .before .before .before .before .before .before .before .before .if1 .left) (c .before .before .before .before .before .before .before .before .before .before .before .before .before .first-rule .ensures) (c .before .before .before .before .before .before .before .before .before .before .before .before .is-rule .ensures) (c .before .before .before .before .before .before .before .before .before .before .before .if2 .left) (c .before .before .before .before .before .before .before .before .before .act .ensures .0) (c .before .before .before .before .before .before .before .before .before .act .ensures .1) (c .before .send .ensures) (c .before .before .before .before .before .before .keep .ensures) (c .before .before .before .before .write-if .ensures),
-    total-next _ _ _ _ _ _ _ _ (c .before .before .before .before .before .before .before .before .before .before .before .before .before .before .before .before .before .pre .1 .0) (c .before .before .before .before .before .before .before .before .before .before .before .before .before .before .before .if1 .left) (c .before .before .before .before .before .before .before .before .before .before .before .before .before .first-rule .ensures) (c .before .before .before .before .before .before .before .before .before .before .before .before .is-rule .ensures) (c .before .before .before .before .before .before .before .before .before .before .before .if2 .left) (c .before .before .before .before .before .before .before .before .before .act .ensures .0) (c .before .before .before .before .before .before .before .before .before .act .ensures .1) (c .before .before .before .before .before .before .before .before .before .before .before .before .before .before .before .before .before .pre .1 .1),
+    fires-on (c .before .before .before .before .before .before .before .before .before .before .before .before .before .before .before .before .before .before .before .before .before .before .before .before .before .before .before .before .before .before .before .before .before .before .before .before .before .before .args .left) _ _ _ _ _ _ _ _ (c .before .before .before .before .before .before .before .before .before .before .before .before .before .before .before .before .before .before .before .before .before .before .before .before .before .before .before .before .before .before .before .act-on .result) (c .before .before .before .before .before .before .before .before .before .before .before .before .before .before .before .before .before .before .before .before .before .before .before .before .before .before .before .before .before .before .before .before .before .before .before .before .before .before .pre .1 .0) (c .before .before .before .before .before .before .before .before .before .before .before .before .before .before .before .before .before .before .before .before .before .before .before .before .before .before .before .before .before .before .before .before .before .before .before .before .before .before .pre .1 .1) (c .before .before .before .before .before .before .before .before .before .before .before .before .before .before .before .before .before .before .before .before .before .before .before .before .before .before .before .before .before .before .before .before .before .before .before .before .before .before .pre .1 .2) (c .before .before .before .before .before .before .before .before .before .before .before .before .before .before .before .before .before .before .before .before .before .before .before .before .before .before .before .before .before .before .before .act-on .ensures .0) (c .before .before .before .before .before .before .before .before .before .before .before .before .before .before .before .before .before .before .before .hear-own .ensures) (c .before .before .before .before .before .before .before .before .before .before .before .before .before .before .before .before .send .ensures) (c .before .before .before .before .before .before .before .before .before .before .before .before .before .before .before .if1 .left),
+    c .before .before .before .before .before .before .before .before .before .first-rule .ensures,
+    applies (c .before .before .before .before .before .before .before .before .is-rule .ensures) (c .before .before .before .before .before .before .before .if2 .left),
+    c .before .before .before .before .before .before .before .before .before .before .before .before .before .before .before .before .before .before .before .before .before .before .before .before .before .before .before .before .before .before .before .before .before .before .before .before .before .before .pre .1 .3,
   ),
 )
 
-fire-same-length-2 : (t : ℕ) → fire-lts.Need-same-length-2 (
+fire-same-length-3 : (t : ℕ) → fire-lts.Need-same-length-3 (
+  act-on-reads.Asked,
+  act-on-reads.Learnt,
+  hear-own-reads.Asked,
+  hear-own-reads.Learnt,
+  send-reads.Asked,
+  send-reads.Learnt,
   first-rule-reads.Asked,
   first-rule-reads.Learnt,
   is-rule-reads.Asked,
   is-rule-reads.Learnt,
-  act-reads.Asked,
-  act-reads.Learnt,
-  keep-reads.Asked,
-  keep-reads.Learnt,
-  write-if-reads.Asked,
-  write-if-reads.Learnt,
-  send-reads.Asked,
-  send-reads.Learnt,
   fire-below t,
   fire.Post,
 ) (fire-at t) fire.Post
-fire-same-length-2 t c = c .before .before .fire .kept .1 .1 .1 .0 ∙ c .before .before .before .before .before .before .before .write-if .kept .0
+fire-same-length-3 t c = c .before .before .fire .kept .1 .1 .1 .1 .1 .1 .1 .1 .1 .1 .1 .1 .1 .1 .0 ∙ c .before .before .before .before .before .before .before .before .before .before .before .before .before .before .before .before .before .before .before .before .before .before .hear-own .kept .1 .1 .1 .1 .1 .1 .1 .1 .1 .1 .0
 
 fire-returns-3 : (t : ℕ) → fire-lts.Need-returns-3 (
+  act-on-reads.Asked,
+  act-on-reads.Learnt,
+  hear-own-reads.Asked,
+  hear-own-reads.Learnt,
+  send-reads.Asked,
+  send-reads.Learnt,
   first-rule-reads.Asked,
   first-rule-reads.Learnt,
   is-rule-reads.Asked,
   is-rule-reads.Learnt,
-  act-reads.Asked,
-  act-reads.Learnt,
-  keep-reads.Asked,
-  keep-reads.Learnt,
-  write-if-reads.Asked,
-  write-if-reads.Learnt,
-  send-reads.Asked,
-  send-reads.Learnt,
   fire-below t,
   fire.Post,
 ) (fire-at t) fire.Post
-fire-returns-3 t c = leaves-next _ _ _ _ _ _ _ _ (c .before .before .before .before .before .before .before .before .before .before .before .before .before .before .before .before .before .before .before .before .pre .1 .0) (c .before .before .before .before .before .before .before .before .before .before .before .before .before .before .before .before .before .before .if1 .left) (c .before .before .before .before .before .before .before .before .before .before .before .before .before .before .before .before .first-rule .ensures) (c .before .before .before .before .before .before .before .before .before .before .before .before .before .before .before .is-rule .ensures) (c .before .before .before .before .before .before .before .before .before .before .before .before .before .before .if2 .left) (c .before .before .before .before .before .before .before .before .before .before .before .before .act .ensures .0) (c .before .before .before .before .before .before .before .before .before .before .before .before .act .ensures .1) (c .before .before .before .before .send .ensures) (c .before .before .before .before .before .before .before .before .before .keep .ensures) (c .before .before .before .before .before .before .before .write-if .ensures) (c .before .before .fire .ensures)
+fire-returns-3 t c = leaves-on (c .before .before .before .before .before .before .before .before .before .before .before .before .before .before .before .before .before .before .before .before .before .before .before .before .before .before .before .before .before .before .before .before .before .before .before .before .before .before .before .before .before .args .left) _ _ _ _ _ _ _ _ (c .before .before .before .before .before .before .before .before .before .before .before .before .before .before .before .before .before .before .before .before .before .before .before .before .before .before .before .before .before .before .before .before .before .before .act-on .result) (c .before .before .before .before .before .before .before .before .before .before .before .before .before .before .before .before .before .before .before .before .before .before .before .before .before .before .before .before .before .before .before .before .before .before .before .before .before .before .before .before .before .pre .1 .0) (c .before .before .before .before .before .before .before .before .before .before .before .before .before .before .before .before .before .before .before .before .before .before .before .before .before .before .before .before .before .before .before .before .before .before .before .before .before .before .before .before .before .pre .1 .1) (c .before .before .before .before .before .before .before .before .before .before .before .before .before .before .before .before .before .before .before .before .before .before .before .before .before .before .before .before .before .before .before .before .before .before .before .before .before .before .before .before .before .pre .1 .2) (c .before .before .before .before .before .before .before .before .before .before .before .before .before .before .before .before .before .before .before .before .before .before .before .before .before .before .before .before .before .before .before .before .before .before .act-on .ensures .0) (c .before .before .before .before .before .before .before .before .before .before .before .before .before .before .before .before .before .before .before .before .before .before .hear-own .ensures) (c .before .before .before .before .before .before .before .before .before .before .before .before .before .before .before .before .before .before .before .send .ensures) (c .before .before .before .before .before .before .before .before .before .before .before .before .before .before .before .before .before .before .if1 .left) (c .before .before .fire .ensures)
 
 pub +fire-spec : {M : Type 1} → statement M
 +fire-spec = close μ-fire λ t. fire-lts.spec (
+  act-on-reads.Asked,
+  act-on-reads.Learnt,
+  hear-own-reads.Asked,
+  hear-own-reads.Learnt,
+  send-reads.Asked,
+  send-reads.Learnt,
   first-rule-reads.Asked,
   first-rule-reads.Learnt,
   is-rule-reads.Asked,
   is-rule-reads.Learnt,
-  act-reads.Asked,
-  act-reads.Learnt,
-  keep-reads.Asked,
-  keep-reads.Learnt,
-  write-if-reads.Asked,
-  write-if-reads.Learnt,
-  send-reads.Asked,
-  send-reads.Learnt,
   fire-below t,
   fire.Post,
 )
     (fire-at t)
     fire.Post
+    (fire-act-on-requires t)
+    (fire-hear-own-requires t)
+    (fire-send-requires t)
+    (fire-same-length t)
     (fire-returns t)
     (fire-first-rule-requires t)
     (fire-is-rule-requires t)
-    (fire-same-length t)
+    (fire-same-length-2 t)
     (fire-returns-2 t)
-    (fire-act-requires t)
-    (fire-keep-requires t)
-    (fire-write-if-requires t)
-    (fire-send-requires t)
     (fire-sub-fire t)
     (fire-fire-requires t)
-    (fire-same-length-2 t)
+    (fire-same-length-3 t)
     (fire-returns-3 t)

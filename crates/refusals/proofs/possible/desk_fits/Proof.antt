@@ -1,22 +1,28 @@
 -- `refusals::possible::desk_fits` meets its contract: each test is asked where those before it hold. Assumes nothing.
-use mathlib.Core.Path.{_≡_, sym, _∙_}
+use mathlib.Core.Path.{_≡_, refl, sym, _∙_}
 use mathlib.Core.Bool.{true}
 use borrow.Author.Tests.{not-true, not-false}
 use Rattle.roll.specs.Weighing.{roll-fits, own-fits}
+use Rattle.rules.specs.declared.State.{State}
+use Rattle.rules.specs.State.{log-of, state-of}
 use Rattle.refusals.proofs.Judging.{roll-not, own-not, places-not, round-not, settled-not, rounds-not, held-not, fresh-then, started-then, few-kiosks, ready, Begun}
 use borrow.Author.Needs.{needs}
 use Rattle.refusals.proofs.possible.desk_fits.Statement.{statement}
 use Rattle.refusals.proofs.possible.desk_fits.Tie as tie
 
+-- the state that is judged
+abbrev state : tie.Start → State
+state a = state-of (a .args .roll) (a .args .votes) (log-of (a .args .prevotes .now) (a .args .precommits .now) (a .args .proposals .now) (a .args .valids .now))
+
 -- what is known where each test holds
-roll-fit : (c : tie.Else1) → roll-fits (c .before .before .before .before .args .s .roll) ≡ true
+roll-fit : (c : tie.Else1) → roll-fits (c .before .before .before .before .args .roll) ≡ true
 roll-fit c = sym (c .before .fits2 .ensures) ∙ not-false (c .before .fits2 .result) (c .if1 .left)
 
-own-fit : (c : tie.Else2) → own-fits (c .before .before .before .before .before .before .args .s .roll) ≡ true
+own-fit : (c : tie.Else2) → own-fits (c .before .before .before .before .before .before .args .roll) ≡ true
 own-fit c = sym (c .before .own-fits .ensures) ∙ not-false (c .before .own-fits .result) (c .if2 .left)
 
 has-begun : (c : tie.Else5)
-    → let a = c .before .before .before .before .before .before .before .before .before .before .before .args in Begun (a .s) (a .table .now)
+    → let a = c .before .before .before .before .before .before .before .before .before .before .before in Begun (state a) (a .args .table .now)
 has-begun c =
     let d = c .before .before in
     let b = d .before .before .before in
@@ -61,7 +67,7 @@ rounds-fit-requires : tie.Need-rounds-fit-requires
 rounds-fit-requires c κs = let e = has-begun c in (few-kiosks _ (e .roll), e .places)
 
 returns-6 : tie.Need-returns-6
-returns-6 c = rounds-not _ _ (has-begun (c .before .before)) (c .before .rounds-fit .ensures) (c .if6 .taken)
+returns-6 c = rounds-not _ _ (has-begun (c .before .before)) (let a = c .before .before .before .before .before .before .before .before .before .before .before .before .before .args in c .before .rounds-fit .ensures (a .roll) (a .votes) refl) (c .if6 .taken)
 
 held-fits-requires : tie.Need-held-fits-requires
 held-fits-requires c κs = search needs
@@ -73,7 +79,7 @@ returns-7 : tie.Need-returns-7
 returns-7 c =
     let h = c .before in
     let g = h .before .before .before in
-    held-not _ _ (has-begun (g .before .before)) (g .before .rounds-fit .ensures) (g .if6 .left) (h .before .held-fits .ensures) (h .held-fits2 .ensures) (c .if7 .taken)
+    held-not _ _ (has-begun (g .before .before)) (let a = g .before .before .before .before .before .before .before .before .before .before .before .before .before .args in g .before .rounds-fit .ensures (a .roll) (a .votes) refl) (g .if6 .left) (h .before .held-fits .ensures) (h .held-fits2 .ensures) (c .if7 .taken)
 
 is-fresh-requires : tie.Need-is-fresh-requires
 is-fresh-requires c κs = search needs
@@ -87,8 +93,8 @@ returns-8 c =
     let k = f .before .before in
     let h = k .before in
     let g = h .before .before .before in
-    fresh-then _ _ (has-begun (g .before .before)) (g .before .rounds-fit .ensures) (g .if6 .left) (h .before .held-fits .ensures) (h .held-fits2 .ensures) (k .if7 .left)
-    (sym (f .before .is-fresh .ensures) ∙ f .if8 .taken) (c .fresh-fits .ensures)
+    fresh-then _ _ (has-begun (g .before .before)) (let a = g .before .before .before .before .before .before .before .before .before .before .before .before .before .args in g .before .rounds-fit .ensures (a .roll) (a .votes) refl) (g .if6 .left) (h .before .held-fits .ensures) (h .held-fits2 .ensures) (k .if7 .left)
+    (sym (f .before .is-fresh .ensures) ∙ f .if8 .taken) (let a = c .before .before .before .before .before .before .before .before .before .before .before .before .before .before .before .before .before .before .before .before .args in c .fresh-fits .ensures (a .roll) (a .valids .now))
 
 total-requires : tie.Need-total-requires
 total-requires c κs = few-kiosks _ (has-begun (c .before .before .before .before .before .before .before .before) .roll)
@@ -107,7 +113,7 @@ returns-9 c =
     let k = f .before .before in
     let h = k .before in
     let g = h .before .before .before in
-    started-then _ _ (has-begun (g .before .before)) (g .before .rounds-fit .ensures) (g .if6 .left) (h .before .held-fits .ensures) (h .held-fits2 .ensures) (k .if7 .left)
+    started-then _ _ (has-begun (g .before .before)) (let a = g .before .before .before .before .before .before .before .before .before .before .before .before .before .args in g .before .rounds-fit .ensures (a .roll) (a .votes) refl) (g .if6 .left) (h .before .held-fits .ensures) (h .held-fits2 .ensures) (k .if7 .left)
     (sym (f .before .is-fresh .ensures) ∙ f .if8 .left) (rw (c .is-rule .ensures, c .before .first-rule .ensures))
 
 pub desk-fits-spec : {M : Type 1} → statement M

@@ -13,7 +13,7 @@ returns : tie.Need-returns
 unfolding fresh-fits
 returns c =
     let a = c .before in
-    rw (sym (a .all-silent .ensures (a .before .before .args .table .now)) ∙ not-true (a .all-silent .result) (c .if1 .taken))
+    λ roll valids. rw (sym (a .all-silent .ensures valids) ∙ not-true (a .all-silent .result) (c .if1 .taken))
 
 all-zero-requires : tie.Need-all-zero-requires
 all-zero-requires c κs = search needs
@@ -23,7 +23,7 @@ unfolding fresh-fits
 returns-2 c =
     let z = c .before .before .before in
     let a = z .before .before in
-    rw (z .all-zero .ensures, sym (a .all-silent .ensures (a .before .before .args .table .now)) ∙ not-false (a .all-silent .result) (z .before .if1 .left))
+    λ roll valids. rw (z .all-zero .ensures, sym (a .all-silent .ensures valids) ∙ not-false (a .all-silent .result) (z .before .if1 .left))
 
 pub fresh-fits-spec : {M : Type 1} → statement M
 fresh-fits-spec = tie.close (tie.spec all-silent-requires returns all-zero-requires returns-2)

@@ -1,25 +1,32 @@
 -- `refusals::refuse::refused_message` meets its contract: each test is asked where those before it hold. Assumes nothing.
 use Prim.Native.Nat.{ℕ}
-use mathlib.Core.Path.{_≡_}
+use mathlib.Core.Path.{_≡_, refl}
 use mathlib.Core.List.{List}
+use Rattle.rules.specs.declared.State.{State}
+use Rattle.rules.specs.State.{log-of, state-of}
 use Rattle.rules.specs.Log.{desk}
-use Rattle.refusals.specs.Refusals.{refused-message}
+use Rattle.refusals.specs.Refusals.{place-heard, refused-message}
 use Rattle.refusals.proofs.Judging.{own-number, not-proposer, sender-passes, heard-or-due, heard-same, heard-other, not-due, last-round, accepted}
 use borrow.Author.Needs.{needs}
 use Rattle.refusals.proofs.refuse.refused_message.Statement.{statement}
 use Rattle.refusals.proofs.refuse.refused_message.Tie as tie
 
-abbrev table-of : tie.Else2 → List ℕ
-table-of c = c .before .before .before .before .before .before .before .before .before .before .args .table .now
+-- the state and the table of the call
+abbrev state : tie.Start → State
+state a = state-of (a .args .roll) (a .args .votes) (log-of (a .args .prevotes .now) (a .args .precommits .now) (a .args .proposals .now) (a .args .valids .now))
+
+abbrev table : tie.Start → List ℕ
+table a = a .args .table .now
 
 -- what is known where the sender is one whose turn it is
-passes : (c : tie.Else2)
-    → let a = c .before .before .before .before .before .before .before .before .before .before .args in
-    refused-message (desk (a .s) (table-of c)) (a .i) ≡ heard-or-due (desk (a .s) (table-of c)) (a .i)
+passes : (c : tie.Else2) → let a = c .before .before .before .before .before .before .before .before .before in refused-message (desk (state a) (table a)) (a .args .i) ≡ heard-or-due (desk (state a) (table a)) (a .args .i)
 passes c =
-    let b = c .before .before .before in
-    let v = b .before .before in
-    sender-passes _ _ _ (v .before .is-proposal .ensures) (v .is-vote .ensures) (b .if1 .left) (c .before .before .is-proposal2 .ensures) (c .before .proposer .ensures) (c .if2 .left)
+    let v = c .before .before .before .before .before in
+    sender-passes _ _ _ (v .before .is-proposal .ensures) (v .is-vote .ensures) (c .before .before .before .if1 .left) (c .before .before .is-proposal2 .ensures) (c .before .proposer .ensures) (c .if2 .left)
+
+-- and whether the message's place is heard
+hears : (c : tie.After-place-heard) → let a = c .before .before .before .before .before .before .before .before .before .before .before in c .place-heard .result ≡ place-heard (desk (state a) (table a)) (a .args .i)
+hears c = let a = c .before .before .before .before .before .before .before .before .before .before .before in c .place-heard .ensures (state a) (table a) (c .before .heard .ensures)
 
 cast-seat : tie.Need-cast-seat
 cast-seat c = search needs
@@ -43,9 +50,11 @@ proposer-requires c κs = search needs
 
 returns-2 : tie.Need-returns-2
 returns-2 c =
-    let b = c .before .before .before in
-    let v = b .before .before in
-    not-proposer _ _ _ (v .before .is-proposal .ensures) (v .is-vote .ensures) (b .if1 .left) (c .before .before .is-proposal2 .ensures) (c .before .proposer .ensures) (c .if2 .taken)
+    let v = c .before .before .before .before .before in
+    not-proposer _ _ _ (v .before .is-proposal .ensures) (v .is-vote .ensures) (c .before .before .before .if1 .left) (c .before .before .is-proposal2 .ensures) (c .before .proposer .ensures) (c .if2 .taken)
+
+heard-requires : tie.Need-heard-requires
+heard-requires c κs = search needs
 
 place-heard-requires : tie.Need-place-heard-requires
 place-heard-requires c κs = search needs
@@ -55,13 +64,15 @@ same-heard-requires c κs = search needs
 
 returns-3 : tie.Need-returns-3
 returns-3 c =
-    let h = c .before .before in
-    heard-same _ _ _ (passes (h .before .before)) (h .before .place-heard .ensures (table-of (h .before .before))) (h .if3 .taken) (c .before .same-heard .ensures) (c .if4 .taken)
+    let p = c .before .before .before in
+    let a = c .before .before .before .before .before .before .before .before .before .before .before .before .before .before in
+    heard-same _ _ _ (passes (p .before .before)) (hears p) (c .before .before .if3 .taken) (c .before .same-heard .ensures (state a) (p .before .heard .ensures)) (c .if4 .taken)
 
 returns-4 : tie.Need-returns-4
 returns-4 c =
-    let h = c .before .before in
-    heard-other _ _ _ (passes (h .before .before)) (h .before .place-heard .ensures (table-of (h .before .before))) (h .if3 .taken) (c .before .same-heard .ensures) (c .if4 .left)
+    let p = c .before .before .before in
+    let a = c .before .before .before .before .before .before .before .before .before .before .before .before .before .before in
+    heard-other _ _ _ (passes (p .before .before)) (hears p) (c .before .before .if3 .taken) (c .before .same-heard .ensures (state a) (p .before .heard .ensures)) (c .if4 .left)
 
 is-timer-requires : tie.Need-is-timer-requires
 is-timer-requires c κs = search needs
@@ -71,23 +82,21 @@ timer-due-requires c κs = search needs
 
 returns-5 : tie.Need-returns-5
 returns-5 c =
-    let h = c .before .before .before in
-    let t = table-of (h .before .before) in
-    not-due _ _ _ (passes (h .before .before)) (h .before .place-heard .ensures t) (h .if3 .left) (c .before .before .is-timer .ensures) (c .before .timer-due .ensures t) (c .if5 .taken)
+    let p = c .before .before .before .before in
+    let a = c .before .before .before .before .before .before .before .before .before .before .before .before .before .before .before in
+    not-due _ _ _ (passes (p .before .before)) (hears p) (c .before .before .before .if3 .left) (c .before .before .is-timer .ensures) (c .before .timer-due .ensures (state a) (table a) refl) (c .if5 .taken)
 
 returns-6 : tie.Need-returns-6
 returns-6 c =
-    let k = c .before .before .before in
-    let h = k .before .before .before in
-    let t = table-of (h .before .before) in
-    last-round _ _ _ (passes (h .before .before)) (h .before .place-heard .ensures t) (h .if3 .left) (k .before .before .is-timer .ensures) (k .before .timer-due .ensures t) (k .if5 .left) (c .if6 .taken)
+    let p = c .before .before .before .before .before .before .before in
+    let a = c .before .before .before .before .before .before .before .before .before .before .before .before .before .before .before .before .before .before in
+    last-round _ _ _ (passes (p .before .before)) (hears p) (c .before .before .before .before .before .before .if3 .left) (c .before .before .before .before .before .is-timer .ensures) (c .before .before .before .before .timer-due .ensures (state a) (table a) refl) (c .before .before .before .if5 .left) (c .if6 .taken)
 
 returns-7 : tie.Need-returns-7
 returns-7 c =
-    let k = c .before .before .before in
-    let h = k .before .before .before in
-    let t = table-of (h .before .before) in
-    accepted _ _ _ (passes (h .before .before)) (h .before .place-heard .ensures t) (h .if3 .left) (k .before .before .is-timer .ensures) (k .before .timer-due .ensures t) (k .if5 .left) (c .if6 .left)
+    let p = c .before .before .before .before .before .before .before in
+    let a = c .before .before .before .before .before .before .before .before .before .before .before .before .before .before .before .before .before .before in
+    accepted _ _ _ (passes (p .before .before)) (hears p) (c .before .before .before .before .before .before .if3 .left) (c .before .before .before .before .before .is-timer .ensures) (c .before .before .before .before .timer-due .ensures (state a) (table a) refl) (c .before .before .before .if5 .left) (c .if6 .left)
 
 pub refused-message-spec : {M : Type 1} → statement M
 refused-message-spec =
@@ -100,6 +109,7 @@ refused-message-spec =
     is-proposal-requires-2
     proposer-requires
     returns-2
+    heard-requires
     place-heard-requires
     same-heard-requires
     returns-3

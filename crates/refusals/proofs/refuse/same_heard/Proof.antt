@@ -12,9 +12,6 @@ cast-seat c = search needs
 is-proposal-requires : tie.Need-is-proposal-requires
 is-proposal-requires c κs = search needs
 
-heard-requires : tie.Need-heard-requires
-heard-requires c κs = search needs
-
 proposed-requires : tie.Need-proposed-requires
 proposed-requires c κs = search needs
 
@@ -22,8 +19,8 @@ returns : tie.Need-returns
 unfolding same-heard
 returns c =
     let p = c .before .before .before in
-    let a = p .before .before in
-    rw (p .proposed .ensures, p .before .heard .ensures, sym (a .before .is-proposal .ensures) ∙ a .if1 .taken)
+    let a = p .before in
+    λ s e. rw (p .proposed .ensures, ← e, sym (a .before .is-proposal .ensures) ∙ a .if1 .taken)
 
 prevotes-place-requires : tie.Need-prevotes-place-requires
 prevotes-place-requires c κs = search needs
@@ -41,9 +38,8 @@ returns-2 : tie.Need-returns-2
 unfolding same-heard
 returns-2 c =
     let p = c .before .before in
-    let b = p .before in
-    let a = b .before .before in
-    rw (p .prevotes-place .ensures, sym (a .before .is-proposal .ensures) ∙ a .if1 .left, eq-eqb _ _ (b .if2 .taken))
+    let a = p .before .before .before in
+    λ s e. rw (p .prevotes-place .ensures, sym (a .before .is-proposal .ensures) ∙ a .if1 .left, eq-eqb _ _ (p .before .if2 .taken))
 
 precommits-place-requires : tie.Need-precommits-place-requires
 precommits-place-requires c κs = search needs
@@ -61,9 +57,8 @@ returns-3 : tie.Need-returns-3
 unfolding same-heard
 returns-3 c =
     let p = c .before .before in
-    let b = p .before in
-    let a = b .before .before in
-    rw (p .precommits-place .ensures, sym (a .before .is-proposal .ensures) ∙ a .if1 .left, ne-eqb _ _ (b .if2 .left))
+    let a = p .before .before .before in
+    λ s e. rw (p .precommits-place .ensures, sym (a .before .is-proposal .ensures) ∙ a .if1 .left, ne-eqb _ _ (p .before .if2 .left))
 
 pub same-heard-spec : {M : Type 1} → statement M
 same-heard-spec =
@@ -71,7 +66,6 @@ same-heard-spec =
     (tie.spec
     cast-seat
     is-proposal-requires
-    heard-requires
     proposed-requires
     returns
     prevotes-place-requires
