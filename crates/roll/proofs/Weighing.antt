@@ -5,13 +5,13 @@ use mathlib.Core.Bool.{Bool, true, false, _&&_, false≢true}
 use mathlib.Core.List.{List}
 use native.Mathlib.Numerals.{add-one}
 use native.Mathlib.Omega.{arith}
-use borrow.Author.Tests.{ltb-false, le-ltb, le-leb, lt-leb}
+use borrow.Author.Tests.{ltb-false, le-ltb, le-leb, lt-leb, leb-true}
 use lib.Dec.{leb}
 use lib.ListN.{getD, drop, replicate}
 use Rattle.words.specs.Choice.{if_then_else_, all-below}
-use Rattle.words.proofs.Choice.{and-left}
+use Rattle.words.proofs.Choice.{and-left, and-right}
 use Rattle.roll.specs.declared.Roll.{Roll}
-use Rattle.roll.specs.Weighing.{large, power-below, total-of, roll-fits}
+use Rattle.roll.specs.Weighing.{large, power-below, most-kiosks, total-of, roll-fits}
 
 -- one seat more: b says whether it counts, and x is what it adds
 pub power-more : (ps : List ℕ) (f : ℕ → Bool) (k : ℕ) {s x : ℕ} {b : Bool} → s ≡ power-below ps f k → b ≡ f k
@@ -91,6 +91,17 @@ module _ (r : Roll) where
       → roll-fits r ≡ (all-below (r .kiosks) (λ i. leb (getD (r .powers) i 0) 1000) && leb 1 (total-of r) && leb (total-of r) 32000)
   unfolding roll-fits
   fits-else h l = rw (le-leb 1 (r .kiosks) h, le-leb (r .kiosks) 32 l)
+
+  -- a roll that fits has 1 to 32 kiosks
+  pub fits-count : roll-fits r ≡ true → (1 ≤ r .kiosks) × (r .kiosks ≤ 32)
+  unfolding roll-fits
+  fits-count e =
+      let a = leb 1 (r .kiosks) in
+      let b = leb (r .kiosks) most-kiosks in
+      let c = all-below (r .kiosks) (λ i. leb (getD (r .powers) i 0) 1000) in
+      let d = leb 1 (total-of r) in
+      let ab = and-left (a && b) c (and-left (a && b && c) d (and-left (a && b && c && d) (leb (total-of r) 32000) e)) in
+      (leb-true 1 (r .kiosks) (and-left a b ab), leb-true (r .kiosks) most-kiosks (and-right a b ab))
 
 abbrev zeros : ℕ → List ℕ
 zeros n = replicate n 0

@@ -1,13 +1,15 @@
 -- Laws of choice: an `if`, `&&`, and the tests over the numbers below a bound. Assumes nothing.
 use Prim.Native.Nat.{ℕ, zero, suc, _+_, _≤_, _<_, pred}
 use mathlib.Core.Path.{_≡_, refl}
-use mathlib.Core.Bool.{Bool, true, false, _&&_, false≢true}
-use mathlib.Core.Logic.{⊎-elim}
+use mathlib.Core.Bool.{Bool, true, false, _&&_, _||_, false≢true}
+use mathlib.Core.Logic.{_⊎_, inl, inr, ⊎-elim}
+use mathlib.Core.List.{List, [], _∷_}
 use native.Mathlib.Nat.{eq-or-lt-of-le}
 use native.Mathlib.Numerals.{add-one}
 use native.Mathlib.Omega.{arith}
-use borrow.Author.Tests.{lt-ltb, le-ltb}
-use Rattle.words.specs.Choice.{if_then_else_, all-below, lowest-below, past-highest-below}
+use lib.Dec.{ltb}
+use borrow.Author.Tests.{lt-ltb, le-ltb, ltb-true}
+use Rattle.words.specs.Choice.{if_then_else_, all-below, lowest-below, past-highest-below, first-of}
 
 -- a statement about an `if` is proved at each of its two values, where the test's answer is known
 pub by-test {ℓ κ} : {A : Type ℓ} (P : A → Type κ) (b : Bool) {x y : A} → (b ≡ true → P x) → (b ≡ false → P y) → P (if b then x else y)
@@ -31,6 +33,26 @@ and-right false b e = absurd (false≢true e)
 pub and-false : (a b : Bool) → (a ≡ true → b ≡ false) → (a && b) ≡ false
 and-false true b f = f refl
 and-false false b f = refl
+
+pub or-case : (a b : Bool) → (a || b) ≡ true → (a ≡ true) ⊎ (b ≡ true)
+or-case true b e = inl refl
+or-case false b e = inr e
+
+-- the first that passes the test does pass it
+pub first-passes : (xs : List ℕ) (test : ℕ → Bool) → (first-of xs test ≡ 0 → ⊥) → test (first-of xs test) ≡ true
+unfolding first-of
+first-passes [] test = λ n. absurd (n refl)
+first-passes (x ∷ xs) test =
+    by-test (λ (m : ℕ). (m ≡ 0 → ⊥) → test m ≡ true) (test x) (λ e n. e) (λ e n. first-passes xs test n)
+
+-- and so the lowest
+pub lowest-passes : (n : ℕ) (p : ℕ → Bool) → lowest-below n p < n → p (lowest-below n p) ≡ true
+unfolding lowest-below
+lowest-passes zero p = λ h. absurd (omega (arith, h))
+lowest-passes (suc k) p =
+    by-test (λ (m : ℕ). m < suc k → p m ≡ true) (ltb (lowest-below k p) k)
+    (λ e h. lowest-passes k p (ltb-true (lowest-below k p) k e))
+    (λ e. by-test (λ (m : ℕ). m < suc k → p m ≡ true) (p k) (λ f h. f) (λ f h. absurd (omega (arith, h))))
 
 -- the highest number that passes the test does pass it, and is below the bound
 pub highest-passes : (n : ℕ) (p : ℕ → Bool) → 1 ≤ past-highest-below n p → (p (pred (past-highest-below n p)) ≡ true) × (pred (past-highest-below n p) < n)

@@ -3,3 +3,5 @@ pub mod Choice
 pub mod MarkLaws
 pub mod ByteLaws
 pub mod Compared
+pub mod Members
+pub mod Places

@@ -2,3 +2,4 @@
 pub mod Choice
 pub mod Marks
 pub mod Bytes
+pub mod Members
