@@ -5,15 +5,16 @@ use mathlib.Core.Path.{_≡_, refl, sym, _∙_}
 use mathlib.Core.List.{List}
 use mathlib.Core.Bool.{Bool, true, false, _&&_, _||_, not, true≢false, false≢true}
 use native.Mathlib.Omega.{arith}
-use lib.ListN.{length, getD}
+use lib.ListN.{length}
 use lib.Dec.{eqb, ltb, leb}
 use borrow.Author.Tests.{not-false, ltb-true, leb-true, eqb-true, eqb-false, eq-eqb}
-use Rattle.words.specs.Choice.{if_then_else_, all-below}
+use Rattle.words.specs.Choice.{if_then_else_, all-below, all-zero}
 use Rattle.words.proofs.Choice.{and-left, and-right}
-use Rattle.roll.specs.Weighing.{roll-fits, own-fits, total-of, most-kiosks, proposer}
+use Rattle.roll.specs.Weighing.{roll-fits, own-fits, proposer}
+use Rattle.roll.proofs.Weighing.{fits-count}
 use Rattle.rules.specs.declared.Input.{Input}
-use Rattle.rules.specs.State.{is-fresh, is-settled, settled-round, most-rounds}
-use Rattle.rules.specs.Log.{Desk, desk, table-length}
+use Rattle.rules.specs.State.{is-fresh, is-settled, settled-round, most-rounds, silent}
+use Rattle.rules.specs.Log.{Desk, desk, table-length, heard}
 use Rattle.rules.specs.Doing.{current, own}
 use Rattle.rules.specs.Ready.{Ready, Readable}
 use Rattle.journal.specs.Layout.{header-length}
@@ -21,7 +22,7 @@ use Rattle.kiosk.specs.declared.Kiosk.{Kiosk}
 use Rattle.answers.specs.declared.Answer.{Answer}
 use Rattle.answers.specs.declared.Answer.the-variants.{Accepted, Impossible, AlreadySettled, OutOfOrder, OtherHeight, BadField, OwnNumber, NotProposer, HeardSame, HeardOther, TimerNotDue, LastRound, NoRoom, HeaderShort, Damaged, BadRoll}
 use Rattle.answers.specs.Answers.{is-accepted}
-use Rattle.refusals.specs.Possible.{held-fits, round-fits, at-rest, desk-fits}
+use Rattle.refusals.specs.Possible.{held-fits, round-fits, fresh-fits, at-rest, desk-fits}
 use Rattle.refusals.specs.Refusals.{is-start, is-proposal, is-vote, is-timer, kind-fits, fields-fit, place-heard, same-heard, timer-due, refused-message, refused-input}
 use Rattle.kiosk.specs.Judged.{used-fits, judged}
 
@@ -65,7 +66,7 @@ pub record Fits (d : Desk) : Type 0 where
   pub rest : at-rest d ≡ true
 
 pub fits : (d : Desk) → desk-fits d ≡ true → Fits d
-unfolding desk-fits roll-fits
+unfolding desk-fits
 fits d e =
     let roll = d .state .roll in
     let a = roll-fits roll in
@@ -83,18 +84,12 @@ fits d e =
     let e4 = and-left (a && b && c && f) g e5 in
     let e3 = and-left (a && b && c) f e4 in
     let e2 = and-left (a && b) c e3 in
-    let n1 = leb 1 (roll .kiosks) in
-    let n2 = leb (roll .kiosks) most-kiosks in
-    let r4 = and-left a b e2 in
-    let n3 = all-below (roll .kiosks) (λ x. leb (getD (roll .powers) x 0) 1000) in
-    let n4 = leb 1 (total-of roll) in
-    let r3 = and-left (n1 && n2 && n3 && n4) (leb (total-of roll) 32000) r4 in
-    let r2 = and-left (n1 && n2 && n3) n4 r3 in
-    let r1 = and-left (n1 && n2) n3 r2 in
+    let e1 = and-left a b e2 in
+    let count = fits-count roll e1 in
     record {
-      roll = r4;
-      some-kiosks = leb-true 1 (roll .kiosks) (and-left n1 n2 r1);
-      few-kiosks = leb-true (roll .kiosks) most-kiosks (and-right n1 n2 r1);
+      roll = e1;
+      some-kiosks = count .0;
+      few-kiosks = count .1;
       own-on-roll = ltb-true (own d) (roll .kiosks) (and-right a b e2);
       places = eqb-true (length (d .table)) table-length (and-right (a && b) c e3);
       round = ltb-true (current d) (d .rounds) (and-right (a && b && c) f e4);
@@ -105,6 +100,28 @@ fits d e =
       rest = and-right (a && b && c && f && g && h && i && j) (at-rest d) e;
     }
 
+-- of a kiosk that has not started: nothing is heard, and no sheet is held
+pub record Unstarted (d : Desk) : Type 0 where
+  pub unheard : all-below (d .rounds) (λ r. silent (heard d r)) ≡ true
+  pub locked : d .state .locked .next ≡ 0
+  pub valid : d .state .valid .next ≡ 0
+
+pub unstarted : (d : Desk) → at-rest d ≡ true → is-fresh (d .state .phase) ≡ true → Unstarted d
+unfolding at-rest fresh-fits
+unstarted d rest fresh =
+    let a = all-below (d .rounds) (λ r. silent (heard d r)) in
+    let b = all-zero (d .table) in
+    let c = eqb (current d) 0 in
+    let l = eqb (d .state .locked .next) 0 in
+    let v = eqb (d .state .valid .next) 0 in
+    let e4 : (a && b && c && l && v) ≡ true = rw fresh at rest in
+    let e3 = and-left (a && b && c && l) v e4 in
+    record {
+      unheard = and-left a b (and-left (a && b) c (and-left (a && b && c) l e3));
+      locked = eqb-true (d .state .locked .next) 0 (and-right (a && b && c) l e3);
+      valid = eqb-true (d .state .valid .next) 0 (and-right (a && b && c && l) v e4);
+    }
+
 -- ## What an accepted input has passed
 
 pub record Passes (d : Desk) (i : Input) : Type 0 where
@@ -113,6 +130,7 @@ pub record Passes (d : Desk) (i : Input) : Type 0 where
   pub height : eqb (i .height .0) (d .state .roll .height .0) ≡ true
   pub fields : fields-fit (d .state .roll .kiosks) (d .rounds) i ≡ true
   pub not-own : ((is-proposal i || is-vote i) && eqb (i .sender) (own d)) ≡ false
+  pub turn : (is-proposal i && not (eqb (i .sender) (proposer (d .state .roll) (i .round .0)))) ≡ false
   pub unheard : place-heard d i ≡ false
   pub due : (is-timer i && not (timer-due d i)) ≡ false
   pub next-round : (eqb (i .kind) 7 && eqb (suc (i .round .0)) (d .rounds)) ≡ false
@@ -136,6 +154,7 @@ passes d i e =
       height = not-false (eqb (i .height .0) (d .state .roll .height .0)) (c .0);
       fields = not-false (fields-fit (d .state .roll .kiosks) (d .rounds) i) (f .0);
       not-own = g .0;
+      turn = h .0;
       unheard = k .0;
       due = l .0;
       next-round = m .0;
@@ -166,14 +185,22 @@ fields-of n rounds i e =
       of-kind = and-right (a && b && c && d) (kind-fits i) e;
     }
 
+-- the round after a precommit timer's is one that there is
+pub next-there : {n rounds : ℕ} (i : Input) → Fields n rounds i → (eqb (i .kind) 7 && eqb (suc (i .round .0)) rounds) ≡ false → 7 ≤ i .kind → suc (i .round .0) < rounds
+next-there {rounds = rounds} i f off late =
+    let seven : eqb (i .kind) 7 ≡ true = eq-eqb (i .kind) 7 (omega (arith, f .kind-high)) in
+    let last : eqb (suc (i .round .0)) rounds ≡ false = rw seven at off in
+    omega (arith, f .round, eqb-false (suc (i .round .0)) rounds last)
+
 -- ## What the rules rely on
 
 module _ (area : ℕ) (k : Kiosk) (t : List ℕ) (i : Input) (e : is-accepted (judged area k (desk (k .state) t) i) ≡ true) where
-  let-in : (not (desk-fits (desk (k .state) t) && used-fits area k) ≡ false) × (is-accepted (refused-input (desk (k .state) t) i) ≡ true)
+  -- refusal 1 is not given, and no later one
+  pub let-in : (not (desk-fits (desk (k .state) t) && used-fits area k) ≡ false) × (is-accepted (refused-input (desk (k .state) t) i) ≡ true)
   unfolding judged
   let-in = past (not (desk-fits (desk (k .state) t) && used-fits area k)) _ _ refl e
 
-  both : (desk-fits (desk (k .state) t) && used-fits area k) ≡ true
+  pub both : (desk-fits (desk (k .state) t) && used-fits area k) ≡ true
   both = not-false (desk-fits (desk (k .state) t) && used-fits area k) (let-in .0)
 
   pub accepted-fits : Fits (desk (k .state) t)
@@ -204,16 +231,10 @@ module _ (area : ℕ) (k : Kiosk) (t : List ℕ) (i : Input) (e : is-accepted (j
       let ab = and-left (a && b) c u in
       (leb-true (k .used) area (and-right a b ab), leb-true (header-length (k .state .roll .kiosks)) (k .used) (and-left a b ab), leb-true (k .last) (k .used) (and-right (a && b) c u))
 
-  next-there : (n : ℕ) → i .kind ≤ 7 → i .round .0 < n → (eqb (i .kind) 7 && eqb (suc (i .round .0)) n) ≡ false → 7 ≤ i .kind → suc (i .round .0) < n
-  next-there n high less off late =
-      let seven : eqb (i .kind) 7 ≡ true = eq-eqb (i .kind) 7 (omega arith) in
-      let last : eqb (suc (i .round .0)) n ≡ false = rw seven at off in
-      omega (arith, eqb-false (suc (i .round .0)) n last)
-
   pub accepted-readable : Readable i
   accepted-readable = record {
     kind = accepted-fields .kind-low;
     sender = omega (arith, accepted-fields .sender, accepted-fits .few-kiosks);
     round = accepted-fields .round;
-    next = next-there most-rounds (accepted-fields .kind-high) (accepted-fields .round) (accepted-passes .next-round);
+    next = next-there i accepted-fields (accepted-passes .next-round);
   }

@@ -1,39 +1,43 @@
 -- What refusal 1 asks is kept: an accepted call leaves a state and a table that refusal 1 lets in. Assumes nothing.
-use Prim.Native.Nat.{ℕ, zero, suc, pred, _^_, _≤_, _<_}
+use Prim.Native.Nat.{ℕ, suc, _^_, _≤_, _<_}
 use mathlib.Core.Path.{_≡_, refl, sym, ap, _∙_}
-use mathlib.Core.List.{List, [], _∷_}
-use mathlib.Core.Bool.{Bool, true, false, _&&_, _||_, not, true≢false, false≢true}
+use mathlib.Core.List.{List, []}
+use mathlib.Core.Bool.{Bool, true, false, _&&_, _||_, not, false≢true}
 use native.Mathlib.Omega.{arith}
 use lib.ListN.{length, getD, set, length-set}
 use lib.Seq.{getD-set-same, getD-set-other}
 use lib.Dec.{ltb, leb, eqb}
 use lib.Pow.{pow-mono}
-use borrow.Author.Tests.{ltb-true, leb-true, eqb-true, eqb-false, not-true, not-false, lt-ltb, le-leb, eq-eqb, ne-eqb}
-use Rattle.words.specs.Choice.{if_then_else_, all-below, all-zero}
-use Rattle.words.proofs.Choice.{by-test, by-cases, and-left, and-right, all-holds, all-so, highest-passes}
+use borrow.Author.Tests.{ltb-true, leb-true, eqb-true, eqb-false, not-true, lt-ltb, le-leb, eq-eqb, ne-eqb}
+use Rattle.words.specs.Choice.{if_then_else_}
+use Rattle.words.proofs.Choice.{by-test, by-cases, and-left, and-right, all-holds, all-so}
 use Rattle.words.proofs.MarkLaws.{mark-below}
+use Rattle.words.proofs.Places.{set-at}
+use Rattle.roll.specs.Weighing.{roll-fits, proposer}
 use Rattle.rules.specs.declared.Heard.{Heard}
 use Rattle.rules.specs.declared.Held.{Held}
 use Rattle.rules.specs.declared.Log.{Log}
-use Rattle.roll.specs.Weighing.{roll-fits, proposer}
 use Rattle.rules.specs.declared.Input.{Input}
-use Rattle.rules.specs.declared.Phase.the-variants.{Running}
+use Rattle.rules.specs.declared.Phase.{Phase}
+use Rattle.rules.specs.declared.Phase.the-variants.{Fresh, Running, Settled}
 use Rattle.rules.specs.declared.Rule.the-variants.{Nothing}
 use Rattle.rules.specs.declared.State.{State}
 use Rattle.rules.specs.declared.Stand.{Stand}
 use Rattle.rules.specs.declared.Output.{Output}
-use Rattle.rules.specs.State.{most-rounds, silent, spoken, held, settled-round, is-fresh, is-propose, is-prevote, entered, with-phase, with-stand, with-locked, with-valid, with-backed}
-use Rattle.rules.specs.Log.{the-log, Desk, desk, with-state, message-power, table-length, proposal-place, told, tell, heard, proposed, logged, hear-proposal, hear-prevote, hear-precommit}
-use Rattle.rules.specs.Doing.{current, own, step, prevote, precommit, propose, ask-propose, ask-prevote, ask-precommit, sheet-to-propose, start-round}
-use Rattle.rules.specs.Rules.{the-rules, first-rule, is-rule, fire, fire-36, fire-49, vote-22, vote-28, backed-sheet, closing-sheet, closing-round, calls, is-some, past-calling-round, applies-36, applies-49, applies-55}
-use Rattle.rules.specs.Work.{take-in, fire-all, most-firings, worked, work}
-use Rattle.rules.proofs.ByRule.{by-rule}
-use Rattle.rules.proofs.Ahead.{told-other}
+use Rattle.rules.specs.State.{most-rounds, spoken, held, settled-round, is-fresh, is-running, entered, with-phase, with-stand, with-locked}
+use Rattle.rules.specs.Log.{the-log, Desk, desk, with-state, table-length, proposal-place, told, tell, heard, proposed, logged, hear-proposal, hear-prevote, hear-precommit}
+use Rattle.rules.specs.Doing.{current, own, prevote, precommit, propose, ask-propose, ask-prevote, ask-precommit, sheet-to-propose, start-round}
+use Rattle.rules.specs.Rules.{the-rules, first-rule, fire-49}
+use Rattle.rules.specs.Work.{worked, work}
+use Rattle.rules.proofs.ByRule.{Runs}
+use Rattle.rules.proofs.Hearing.{told-other}
+use Rattle.rules.proofs.Deeds.{holding, Deed, prevotes, precommits-nil, locks, holds, asks-prevote, asks-precommit, settles, enters}
 use Rattle.rules.proofs.Ends.{work-ends}
 use Rattle.answers.specs.Answers.{is-accepted}
-use Rattle.refusals.specs.Possible.{the-possible, held-fits, round-fits, fresh-fits, at-rest, desk-fits}
-use Rattle.refusals.specs.Refusals.{is-start, proposal-fits, kind-fits, timer-due, refused-input}
-use Rattle.kiosk.proofs.Accepted.{Fits, fits, Passes, passes, Fields, fields-of}
+use Rattle.refusals.specs.Possible.{the-possible, held-fits, round-fits, at-rest, desk-fits}
+use Rattle.refusals.specs.Refusals.{refused-input}
+use Rattle.kiosk.proofs.Accepted.{Fits, fits, unstarted, Passes, passes}
+use Rattle.kiosk.proofs.Taken.{Taken, starts, hears-proposal, hears-prevote, hears-precommit, timer, call-keeps}
 
 -- ---- what is heard of a round and the name of its proposal, as refusal 1 asks it
 
@@ -42,10 +46,6 @@ pub record Heard-fits (n r : ℕ) (h : Heard) (name : ℕ) : Type 0 where
   pub precommits : h .precommits < 2 ^ n
   pub verdict : h .proposal ≤ 2
   pub sheet : spoken h ≡ true → (name ≡ 0 → ⊥) × (h .valid ≤ r)
-
-or-true : (a b : Bool) → (a || b) ≡ true → not a ≡ true → b ≡ true
-or-true true b e f = absurd (false≢true f)
-or-true false b e f = e
 
 round-told : (d : Desk) (r : ℕ) → round-fits d r ≡ true → Heard-fits (d .state .roll .kiosks) r (heard d r) (proposed d r)
 unfolding round-fits
@@ -65,7 +65,7 @@ round-told d r e =
       precommits = ltb-true (h .precommits) (2 ^ n) (and-right a b ab);
       verdict = leb-true (h .proposal) 2 (and-right (a && b) c abc);
       sheet = λ p.
-          let sv : (s && v) ≡ true = or-true (not (spoken h)) (s && v) sheets (rw p) in
+          let sv : (s && v) ≡ true = rw p at sheets in
           (eqb-false (proposed d r) 0 (not-true (eqb (proposed d r) 0) (and-left s v sv)), leb-true (h .valid) r (and-right s v sv));
     }
 
@@ -109,12 +109,6 @@ pub record Sound (d : Desk) : Type 0 where
   pub locked : held-fits (current d) (d .state .locked) ≡ true
   pub valid : held-fits (current d) (d .state .valid) ≡ true
 
--- what a place holds once one is set: that, or nothing where there is no such place
-set-at : (P : ℕ → Type 0) (l : List ℕ) (i a : ℕ) → P a → P 0 → P (getD (set l i a) i 0)
-set-at P [] i a f g = g
-set-at P (x ∷ l) zero a f g = f
-set-at P (x ∷ l) (suc i) a f g = set-at P l i a f g
-
 -- what a log says of a round once it is told it
 told-fits : (l : Log) (n r name : ℕ) (h : Heard) → Heard-fits n r h name → Heard-fits n r (told (tell l r h) r) name
 unfolding told
@@ -137,10 +131,11 @@ told-kept d r h t new q old =
     (λ e. rw (eqb-true q r e) (told-fits (d .state .log) (d .state .roll .kiosks) r (getD t (proposal-place r) 0) h new))
     (λ e. rw (told-other (d .state .log) r h (eqb-false q r e)) (old (eqb-false q r e)))
 
--- a vote in the log: its place is none of a proposal's
-vote-kept : (d : Desk) → Sound d → (r : ℕ) (h : Heard) (place name : ℕ) → ((q : ℕ) → proposal-place q ≡ place → ⊥)
-    → Heard-fits (d .state .roll .kiosks) r h (proposed d r) → Sound (logged d r h place name)
-vote-kept d s r h place name apart new = record {
+-- a message in the log changes what is heard, and no other part
+logged-kept : (d : Desk) → Sound d → (r : ℕ) (h : Heard) (place name : ℕ)
+    → ((q : ℕ) → q < d .rounds → Heard-fits (d .state .roll .kiosks) q (heard (logged d r h place name) q) (proposed (logged d r h place name) q))
+    → Sound (logged d r h place name)
+logged-kept d s r h place name all = record {
   roll = s .roll;
   few = s .few;
   own-seat = s .own-seat;
@@ -149,221 +144,136 @@ vote-kept d s r h place name apart new = record {
   places = length-set (d .table) place name ∙ s .places;
   round = s .round;
   settled = s .settled;
-  all-heard = λ q l.
-      told-kept d r h (set (d .table) place name)
-      (rw (getD-set-other (d .table) place (proposal-place r) name 0 (apart r)) new)
-      q
-      (λ e. rw (getD-set-other (d .table) place (proposal-place q) name 0 (apart q)) (s .all-heard q l));
+  all-heard = all;
   locked = s .locked;
   valid = s .valid;
 }
+
+-- a vote: its place is none of a proposal's
+vote-logged : (d : Desk) → Sound d → (r : ℕ) (h : Heard) (place name : ℕ) → ((q : ℕ) → proposal-place q ≡ place → ⊥)
+    → Heard-fits (d .state .roll .kiosks) r h (proposed d r) → Sound (logged d r h place name)
+vote-logged d s r h place name apart new =
+    logged-kept d s r h place name
+    (λ q l.
+    told-kept d r h (set (d .table) place name)
+    (rw (getD-set-other (d .table) place (proposal-place r) name 0 (apart r)) new)
+    q
+    (λ e. rw (getD-set-other (d .table) place (proposal-place q) name 0 (apart q)) (s .all-heard q l)))
 
 -- with either verdict a proposal is heard under a number that there is
 verdict-low : (good : Bool) → (if good then 2 else 1) ≤ 2
 verdict-low true = omega arith
 verdict-low false = omega arith
 
--- a proposal in the log, with a name and a valid round before its own
-proposal-kept : (d : Desk) → Sound d → (r : ℕ) (good : Bool) (valid name : ℕ) → r < d .rounds → valid ≤ r → (name ≡ 0 → ⊥) → Sound (hear-proposal d r good valid name)
+-- a proposal, with a name and a valid round before its own
+proposal-logged : (d : Desk) → Sound d → (r : ℕ) (good : Bool) (valid name : ℕ) → r < d .rounds → valid ≤ r → (name ≡ 0 → ⊥) → Sound (hear-proposal d r good valid name)
 unfolding hear-proposal
-proposal-kept d s r good valid name l v some =
-    let n = d .state .roll .kiosks in
+proposal-logged d s r good valid name l v some =
     let t = d .table in
     let at : proposal-place r < length t = rw (s .places) (omega (arith, s .rounds-are)) in
     let old = s .all-heard r l in
-    let same : getD (set t (proposal-place r) name) (proposal-place r) 0 ≡ name = getD-set-same t (proposal-place r) name 0 at in
-    record {
-      roll = s .roll;
-      few = s .few;
-      own-seat = s .own-seat;
-      rounds-are = s .rounds-are;
-      started = s .started;
-      places = length-set t (proposal-place r) name ∙ s .places;
-      round = s .round;
-      settled = s .settled;
-      all-heard = λ q m.
-          told-kept d r _ (set t (proposal-place r) name)
-          (record { prevotes = old .prevotes; precommits = old .precommits; verdict = verdict-low good; sheet = λ p. (rw same some, v) })
-          q
-          (λ e. rw (getD-set-other t (proposal-place r) (proposal-place q) name 0 (λ z. e (omega (arith, z)))) (s .all-heard q m));
-      locked = s .locked;
-      valid = s .valid;
-    }
+    logged-kept d s r _ (proposal-place r) name
+    (λ q m.
+    told-kept d r _ (set t (proposal-place r) name)
+    (record { prevotes = old .prevotes; precommits = old .precommits; verdict = verdict-low good; sheet = λ p. (rw (getD-set-same t (proposal-place r) name 0 at) some, v) })
+    q
+    (λ e. rw (getD-set-other t (proposal-place r) (proposal-place q) name 0 (λ z. e (omega (arith, z)))) (s .all-heard q m)))
 
-prevote-heard : (d : Desk) → Sound d → (r i name : ℕ) → r < d .rounds → i < d .state .roll .kiosks → Sound (hear-prevote d r i name)
+prevote-logged : (d : Desk) → Sound d → (r i name : ℕ) → r < d .rounds → i < d .state .roll .kiosks → Sound (hear-prevote d r i name)
 unfolding hear-prevote
-prevote-heard d s r i name l m =
+prevote-logged d s r i name l m =
     let old = s .all-heard r l in
-    vote-kept d s r _ _ name (λ q e. omega (arith, e, m, s .few))
+    vote-logged d s r _ _ name (λ q e. omega (arith, e, m, s .few))
     (record { prevotes = mark-below (d .state .roll .kiosks) i (heard d r .prevotes) m (old .prevotes); precommits = old .precommits; verdict = old .verdict; sheet = old .sheet })
 
-precommit-heard : (d : Desk) → Sound d → (r i name : ℕ) → r < d .rounds → i < d .state .roll .kiosks → Sound (hear-precommit d r i name)
+precommit-logged : (d : Desk) → Sound d → (r i name : ℕ) → r < d .rounds → i < d .state .roll .kiosks → Sound (hear-precommit d r i name)
 unfolding hear-precommit
-precommit-heard d s r i name l m =
+precommit-logged d s r i name l m =
     let old = s .all-heard r l in
-    vote-kept d s r _ _ name (λ q e. omega (arith, e, m, s .few))
+    vote-logged d s r _ _ name (λ q e. omega (arith, e, m, s .few))
     (record { prevotes = old .prevotes; precommits = mark-below (d .state .roll .kiosks) i (heard d r .precommits) m (old .precommits); verdict = old .verdict; sheet = old .sheet })
 
 -- ---- what a kiosk does on its own
 
+-- the same log and table with other votes, as far as refusal 1 asks
+votes-kept : (d : Desk) {p : Phase} {t : Stand} {l v : Held} {sent : List Output} → Sound d → is-fresh p ≡ false → settled-round p < d .rounds
+    → t .round .0 < d .rounds → held-fits (t .round .0) l ≡ true → held-fits (t .round .0) v ≡ true
+    → Sound (record { rounds = d .rounds; state = record { roll = d .state .roll; phase = p; stand = t; locked = l; valid = v; log = d .state .log }; table = d .table; sent = sent })
+votes-kept d s started settled round locked valid = record {
+  roll = s .roll;
+  few = s .few;
+  own-seat = s .own-seat;
+  rounds-are = s .rounds-are;
+  started = started;
+  places = s .places;
+  round = round;
+  settled = settled;
+  all-heard = s .all-heard;
+  locked = locked;
+  valid = valid;
+}
+
 -- another step, timers or marks in the same round, and outputs
 stands : (d : Desk) → Sound d → (t : Stand) (sent : List Output) → t .round .0 ≡ current d
     → Sound (record { rounds = d .rounds; state = with-stand t (d .state); table = d .table; sent = sent })
-stands d s t sent e = record {
-  roll = s .roll;
-  few = s .few;
-  own-seat = s .own-seat;
-  rounds-are = s .rounds-are;
-  started = s .started;
-  places = s .places;
-  round = rw e (s .round);
-  settled = s .settled;
-  all-heard = s .all-heard;
-  locked = rw e (s .locked);
-  valid = rw e (s .valid);
-}
+stands d s t sent e = votes-kept d s (s .started) (s .settled) (rw e (s .round)) (rw e (s .locked)) (rw e (s .valid))
 
 prevote-kept : (name : ℕ) (d : Desk) → Sound d → Sound (prevote name d)
 unfolding prevote
-prevote-kept name d s = stands (hear-prevote d (current d) (own d) name) (prevote-heard d s (current d) (own d) name (s .round) (s .own-seat)) _ _ refl
+prevote-kept name d s = stands (hear-prevote d (current d) (own d) name) (prevote-logged d s (current d) (own d) name (s .round) (s .own-seat)) _ _ refl
 
 precommit-kept : (name : ℕ) (d : Desk) → Sound d → Sound (precommit name d)
 unfolding precommit
-precommit-kept name d s = stands (hear-precommit d (current d) (own d) name) (precommit-heard d s (current d) (own d) name (s .round) (s .own-seat)) _ _ refl
+precommit-kept name d s = stands (hear-precommit d (current d) (own d) name) (precommit-logged d s (current d) (own d) name (s .round) (s .own-seat)) _ _ refl
 
-ask-prevote-kept : (d : Desk) → Sound d → Sound (ask-prevote d)
-unfolding ask-prevote
-ask-prevote-kept d s = stands d s _ _ refl
-
-ask-precommit-kept : (d : Desk) → Sound d → Sound (ask-precommit d)
-unfolding ask-precommit
-ask-precommit-kept d s = stands d s _ _ refl
+asks-kept : (d : Desk) → Sound d → Sound (ask-prevote d) × Sound (ask-precommit d)
+unfolding ask-prevote ask-precommit
+asks-kept d s = (stands d s _ _ refl, stands d s _ _ refl)
 
 -- a round entered: no sheet is held from it or a later one
-enter-kept : (r : ℕ) (d : Desk) → Sound d → r < d .rounds → d .state .locked .next ≤ r → d .state .valid .next ≤ r
-    → Sound (with-state (with-stand (entered r) (d .state)) d)
-enter-kept r d s l a b = record {
-  roll = s .roll;
-  few = s .few;
-  own-seat = s .own-seat;
-  rounds-are = s .rounds-are;
-  started = s .started;
-  places = s .places;
-  round = l;
-  settled = s .settled;
-  all-heard = s .all-heard;
-  locked = held-at (current d) r (d .state .locked) (s .locked) (omega arith);
-  valid = held-at (current d) r (d .state .valid) (s .valid) (omega arith);
-}
-
 start-kept : (offer r : ℕ) (d : Desk) → Sound d → r < d .rounds → d .state .locked .next ≤ r → d .state .valid .next ≤ r → Sound (start-round offer r d)
 unfolding start-round propose ask-propose hear-proposal
 start-kept offer r d s l a b =
     let e = with-state (with-stand (entered r) (d .state)) d in
-    let f = enter-kept r d s l a b in
+    let f : Sound e =
+    votes-kept d s (s .started) (s .settled) l
+    (held-at (current d) r (d .state .locked) (s .locked) (omega arith))
+    (held-at (current d) r (d .state .valid) (s .valid) (omega arith)) in
     let sheet = sheet-to-propose offer d in
     let t = eqb (proposer (d .state .roll) r) (own d) in
     by-test Sound (t && not (eqb sheet 0))
-    (λ h. let p = proposal-kept e f r true (d .state .valid .next) sheet l b (eqb-false sheet 0 (not-true (eqb sheet 0) (and-right t (not (eqb sheet 0)) h))) in
+    (λ h. let p = proposal-logged e f r true (d .state .valid .next) sheet l b (eqb-false sheet 0 (not-true (eqb sheet 0) (and-right t (not (eqb sheet 0)) h))) in
     stands (hear-proposal e r true (d .state .valid .next) sheet) p _ _ refl)
     (λ h. stands e f _ _ refl)
 
-back-kept : (name : ℕ) (d : Desk) → Sound d → (name ≡ 0 → ⊥) → Sound (fire-36 name d)
-unfolding fire-36
-back-kept name d s some =
-    let sheet = held (current d) name in
-    let fit = held-here (current d) name some in
-    let v : Sound (with-state (with-valid sheet (with-stand (with-backed (d .state .stand)) (d .state))) d) = record {
-      roll = s .roll;
-      few = s .few;
-      own-seat = s .own-seat;
-      rounds-are = s .rounds-are;
-      started = s .started;
-      places = s .places;
-      round = s .round;
-      settled = s .settled;
-      all-heard = s .all-heard;
-      locked = s .locked;
-      valid = fit;
-    } in
-    let w : Sound (with-state (with-locked sheet (with-valid sheet (with-stand (with-backed (d .state .stand)) (d .state)))) d) = record {
-      roll = s .roll;
-      few = s .few;
-      own-seat = s .own-seat;
-      rounds-are = s .rounds-are;
-      started = s .started;
-      places = s .places;
-      round = s .round;
-      settled = s .settled;
-      all-heard = s .all-heard;
-      locked = fit;
-      valid = fit;
-    } in
-    by-test Sound (is-prevote (step d)) (λ e. precommit-kept name _ w) (λ e. v)
-
 settle-kept : (r name : ℕ) (d : Desk) → Sound d → r < d .rounds → Sound (fire-49 r name d)
 unfolding fire-49
-settle-kept r name d s l = record {
-  roll = s .roll;
-  few = s .few;
-  own-seat = s .own-seat;
-  rounds-are = s .rounds-are;
-  started = refl;
-  places = s .places;
-  round = s .round;
-  settled = l;
-  all-heard = s .all-heard;
-  locked = s .locked;
-  valid = s .valid;
-}
+settle-kept r name d s l = votes-kept d s refl l (s .round) (s .locked) (s .valid)
 
--- ---- the rules
+-- a round ahead is above every sheet that is held
+enter-kept : (offer r : ℕ) (d : Desk) → Sound d → current d < r → r < d .rounds → Sound (start-round offer r d)
+enter-kept offer r d s more l =
+    start-kept offer r d s l
+    (omega (arith, more, held-low (current d) (d .state .locked) (s .locked)))
+    (omega (arith, more, held-low (current d) (d .state .valid) (s .valid)))
 
--- a round that calls is one there is, ahead of the current one
-calls-ahead : (d : Desk) → applies-55 d ≡ true → (current d < pred (past-calling-round d)) × (pred (past-calling-round d) < d .rounds)
-unfolding applies-55 past-calling-round calls
-calls-ahead d e =
-    let p = highest-passes (d .rounds) (λ r. calls d r) (leb-true 1 (past-calling-round d) e) in
-    let c = pred (past-calling-round d) in
-    (ltb-true (current d) c (and-left (ltb (current d) c) (is-some d (message-power d c)) (p .0)), p .1)
-
-backs : (d : Desk) → applies-36 d ≡ true → backed-sheet d ≡ 0 → ⊥
-unfolding applies-36
-backs d a = eqb-false (backed-sheet d) 0 (not-true (eqb (backed-sheet d) 0) (and-right (not (is-propose (step d)) && not (d .state .stand .backed)) (not (eqb (backed-sheet d) 0)) a))
-
-closes : (d : Desk) → applies-49 d ≡ true → closing-round d < d .rounds
-unfolding applies-49
-closes d a = ltb-true (closing-round d) (d .rounds) a
-
-rule-kept : (offer : ℕ) (d : Desk) → Sound d → Sound (fire (first-rule d) offer d)
-unfolding fire
-rule-kept offer d s =
-    by-rule (λ rule. Sound (fire rule offer d)) d
-    (λ e. s)
-    (λ run q a b. s)
-    (λ run a. prevote-kept (vote-22 d) d s)
-    (λ run a. prevote-kept (vote-28 d) d s)
-    (λ run a. ask-prevote-kept d s)
-    (λ run a. back-kept (backed-sheet d) d s (backs d a))
-    (λ run a. precommit-kept 0 d s)
-    (λ run a. ask-precommit-kept d s)
-    (λ run q a. settle-kept (closing-round d) (closing-sheet d (closing-round d)) d s (closes d a))
-    (λ run q n a. let c = calls-ahead d a in
-    start-kept offer (pred (past-calling-round d)) d s (c .1)
-    (omega (arith, c .0, held-low (current d) (d .state .locked) (s .locked)))
-    (omega (arith, c .0, held-low (current d) (d .state .valid) (s .valid))))
-
-fired-kept : (n offer : ℕ) (d : Desk) → Sound d → Sound (fire-all n offer d)
-unfolding fire-all
-fired-kept zero offer d s = s
-fired-kept (suc n) offer d s =
-    by-test Sound (is-rule (first-rule d)) (λ e. fired-kept n offer (fire (first-rule d) offer d) (rule-kept offer d s)) (λ e. s)
+deed-kept : (offer : ℕ) (d u : Desk) → Deed offer d u → Sound d → Sound u
+deed-kept offer d u (prevotes name at f e) s = rw e (prevote-kept name d s)
+deed-kept offer d u (precommits-nil at e) s = rw e (precommit-kept 0 d s)
+deed-kept offer d u (locks name at f e) s =
+    let h = held-here (current d) name (f .some) in
+    rw e (precommit-kept name (with-state (with-locked (held (current d) name) (holding name d)) d) (votes-kept d s (s .started) (s .settled) (s .round) h h))
+deed-kept offer d u (holds name p v f e) s = rw e (votes-kept d s (s .started) (s .settled) (s .round) (s .locked) (held-here (current d) name (f .some)))
+deed-kept offer d u (asks-prevote at a f e) s = rw e (asks-kept d s .0)
+deed-kept offer d u (asks-precommit a f e) s = rw e (asks-kept d s .1)
+deed-kept offer d u (settles r name f e) s = rw e (settle-kept r name d s (f .there))
+deed-kept offer d u (enters r more l e) s = rw e (enter-kept offer r d s more l)
 
 -- ---- the input
 
--- what refusal 1 has looked at, of a kiosk that has started
-sound : (d : Desk) → Fits d → d .rounds ≡ most-rounds → is-fresh (d .state .phase) ≡ false → Sound d
-sound d f e started = record {
+-- what refusal 1 has looked at, of a kiosk that has started or starts now
+sound : (d : Desk) (p : Phase) → Fits d → d .rounds ≡ most-rounds → is-fresh p ≡ false → settled-round p < d .rounds → Sound (with-state (with-phase p (d .state)) d)
+sound d p f e started settled = record {
   roll = f .roll;
   few = f .few-kiosks;
   own-seat = f .own-on-roll;
@@ -371,101 +281,35 @@ sound d f e started = record {
   started = started;
   places = f .places;
   round = f .round;
-  settled = f .settled;
+  settled = settled;
   all-heard = λ r l. round-told d r (all-holds (d .rounds) (λ k. round-fits d k) (f .rounds-fit) r l);
   locked = f .locked;
   valid = f .valid;
 }
 
--- and of one that starts now
-sound-starting : (d : Desk) → Fits d → d .rounds ≡ most-rounds → Sound (with-state (with-phase Running (d .state)) d)
-sound-starting d f e = record {
-  roll = f .roll;
-  few = f .few-kiosks;
-  own-seat = f .own-on-roll;
-  rounds-are = e;
-  started = refl;
-  places = f .places;
-  round = f .round;
-  settled = omega (arith, f .round);
-  all-heard = λ r l. round-told d r (all-holds (d .rounds) (λ k. round-fits d k) (f .rounds-fit) r l);
-  locked = f .locked;
-  valid = f .valid;
-}
-
--- before start no sheet is held
-none-held : (d : Desk) → Fits d → is-fresh (d .state .phase) ≡ true → (d .state .locked .next ≡ 0) × (d .state .valid .next ≡ 0)
-unfolding at-rest fresh-fits
-none-held d f fresh =
-    let a = all-below (d .rounds) (λ r. silent (heard d r)) in
-    let b = all-zero (d .table) in
-    let c = eqb (current d) 0 in
-    let l = eqb (d .state .locked .next) 0 in
-    let v = eqb (d .state .valid .next) 0 in
-    let e : (a && b && c && l && v) ≡ true = rw fresh at (f .rest) in
-    (eqb-true (d .state .locked .next) 0 (and-right (a && b && c) l (and-left (a && b && c && l) v e)), eqb-true (d .state .valid .next) 0 (and-right (a && b && c && l) v e))
-
--- start is the input of a kiosk that has not started, and of no other
-starts-fresh : (fresh start : Bool) → (if fresh then not start else start) ≡ false → start ≡ fresh
-starts-fresh true true e = refl
-starts-fresh true false e = absurd (true≢false e)
-starts-fresh false start e = e
+-- a kiosk that runs has started
+not-fresh : (p : Phase) → is-running p ≡ true → is-fresh p ≡ false
+not-fresh Fresh e = absurd (false≢true e)
+not-fresh Running e = refl
+not-fresh (Settled r) e = refl
 
 module _ (d : Desk) (i : Input) (f : Fits d) (p : Passes d i) (rounds : d .rounds ≡ most-rounds) where
-  fields : Fields (d .state .roll .kiosks) (d .rounds) i
-  fields = fields-of (d .state .roll .kiosks) (d .rounds) i (p .fields)
+  running-sound : Runs d → Sound d
+  running-sound run = sound d (d .state .phase) f rounds (not-fresh (d .state .phase) run) (f .settled)
 
-  fresh-is : is-start i ≡ is-fresh (d .state .phase)
-  fresh-is = starts-fresh (is-fresh (d .state .phase)) (is-start i) (p .in-order)
-
-  running : eqb (i .kind) 1 ≡ false → Sound d
-  running e = sound d f rounds (sym fresh-is ∙ e)
-
-  proposal-fields : eqb (i .kind) 2 ≡ true → (i .name ≡ 0 → ⊥) × (i .valid ≤ i .round .0)
-  unfolding kind-fits proposal-fits
-  proposal-fields e =
-      let a = not (eqb (i .name) 0) in
-      let b = leb (i .valid) (i .round .0) in
-      let k : (a && b && leb (i .verdict) 1) ≡ true = rw e at (fields .of-kind) in
-      let ab = and-left (a && b) (leb (i .verdict) 1) k in
-      (eqb-false (i .name) 0 (not-true (eqb (i .name) 0) (and-left a b ab)), leb-true (i .valid) (i .round .0) (and-right a b ab))
-
-  timer-round : 5 ≤ i .kind → i .round .0 ≡ current d
-  unfolding timer-due
-  timer-round l =
-      let due : not (timer-due d i) ≡ false = rw (le-leb 5 (i .kind) l, le-leb (i .kind) 7 (fields .kind-high)) at (p .due) in
-      let t = not-false (timer-due d i) due in
-      eqb-true (i .round .0) (current d) (and-left (eqb (i .round .0) (current d)) _ t)
-
-  next-there : 7 ≤ i .kind → suc (i .round .0) < d .rounds
-  next-there l =
-      let seven : eqb (i .kind) 7 ≡ true = eq-eqb (i .kind) 7 (omega (arith, fields .kind-high)) in
-      let last : eqb (suc (i .round .0)) (d .rounds) ≡ false = rw seven at (p .next-round) in
-      omega (arith, fields .round, eqb-false (suc (i .round .0)) (d .rounds) last)
-
-  taken : Sound (take-in i d)
-  unfolding take-in
-  taken =
-      by-test Sound (eqb (i .kind) 1) (λ e1.
-      let n = none-held d f (sym fresh-is ∙ e1) in
-      start-kept (i .offer) 0 (with-state (with-phase Running (d .state)) d) (sound-starting d f rounds) (omega (arith, f .round)) (omega (arith, n .0)) (omega (arith, n .1))) (λ e1.
-      let s = running e1 in
-      let r = i .round .0 in
-      by-test Sound (eqb (i .kind) 2) (λ e. proposal-kept d s r (eqb (i .verdict) 1) (i .valid) (i .name) (fields .round) (proposal-fields e .1) (proposal-fields e .0)) (λ e2.
-      by-test Sound (eqb (i .kind) 3) (λ e. prevote-heard d s r (i .sender) (i .name) (fields .round) (fields .sender)) (λ e3.
-      by-test Sound (eqb (i .kind) 4) (λ e. precommit-heard d s r (i .sender) (i .name) (fields .round) (fields .sender)) (λ e4.
-      by-test Sound (eqb (i .kind) 5) (λ e. prevote-kept 0 d s) (λ e5.
-      by-test Sound (eqb (i .kind) 6) (λ e. precommit-kept 0 d s) (λ e6.
-      let not-one : (n : ℕ) → eqb (i .kind) n ≡ false → i .kind ≡ n → ⊥ = eqb-false (i .kind) in
-      let late : 7 ≤ i .kind = omega (arith, fields .kind-low, not-one 1 e1, not-one 2 e2, not-one 3 e3, not-one 4 e4, not-one 5 e5, not-one 6 e6) in
-      let here = timer-round (omega arith) in
-      start-kept (i .offer) (suc r) d s (next-there late)
-      (omega (arith, here, held-low (current d) (d .state .locked) (s .locked)))
-      (omega (arith, here, held-low (current d) (d .state .valid) (s .valid)))))))))
+  taken-kept : (u : Desk) → Taken d i u → Sound u
+  taken-kept u (starts fresh k e) =
+      let n = unstarted d (f .rest) fresh in
+      let low : 0 < d .rounds = omega (arith, f .round) in
+      rw e (start-kept (i .offer) 0 (with-state (with-phase Running (d .state)) d) (sound d Running f rounds refl low) low (omega (arith, n .locked)) (omega (arith, n .valid)))
+  taken-kept u (hears-proposal m k by some low unheard e) =
+      rw e (proposal-logged d (running-sound (m .runs)) (i .round .0) (eqb (i .verdict) 1) (i .valid) (i .name) (m .round) low some)
+  taken-kept u (hears-prevote m k unheard e) = rw e (prevote-logged d (running-sound (m .runs)) (i .round .0) (i .sender) (i .name) (m .round) (m .seat))
+  taken-kept u (hears-precommit m k unheard e) = rw e (precommit-logged d (running-sound (m .runs)) (i .round .0) (i .sender) (i .name) (m .round) (m .seat))
+  taken-kept u (timer run k did) = deed-kept (i .offer) d u did (running-sound run)
 
   pub worked-sound : Sound (worked i d)
-  unfolding worked
-  worked-sound = fired-kept (most-firings (d .rounds)) (i .offer) (take-in i d) taken
+  worked-sound = call-keeps d i p Sound taken-kept (λ e u run did. deed-kept (i .offer) e u did)
 
 -- ---- and so refusal 1 lets it in
 

@@ -4,7 +4,6 @@ use Prim.Native.Nat.{ℕ, suc, _≤_, _<_}
 use mathlib.Core.Path.{_≡_}
 use mathlib.Core.Bool.{false}
 use native.Mathlib.Omega.{arith}
-use lib.Seq.{getD-set-other}
 use lib.Dec.{ltb}
 use borrow.Author.Tests.{lt-ltb, ltb-true, leb-false}
 use Rattle.words.proofs.Choice.{and-false, highest-none, highest-above}
@@ -13,6 +12,7 @@ use Rattle.rules.specs.declared.Log.{Log}
 use Rattle.rules.specs.Log.{Desk, told, tell, heard, message-power}
 use Rattle.rules.specs.Doing.{current}
 use Rattle.rules.specs.Rules.{is-some, calls, past-calling-round, applies-55}
+use Rattle.rules.proofs.Hearing.{told-other}
 
 -- the desk u is in round r; of the rounds above r it has heard what d has, and it has as many rounds and the same roll
 pub record Ahead (r : ℕ) (d u : Desk) : Type 0 where
@@ -20,12 +20,6 @@ pub record Ahead (r : ℕ) (d u : Desk) : Type 0 where
   pub roll : u .state .roll ≡ d .state .roll
   pub round : current u ≡ r
   pub above : (q : ℕ) → r < q → heard u q ≡ heard d q
-
--- what a log says of another round after `tell`
-pub told-other : (l : Log) (r : ℕ) (h : Heard) {q : ℕ} → (q ≡ r → ⊥) → told (tell l r h) q ≡ told l q
-unfolding told
-told-other l r h {q} off =
-    rw (getD-set-other (l .prevotes) r q (h .prevotes) 0 off, getD-set-other (l .precommits) r q (h .precommits) 0 off, getD-set-other (l .proposals) r q (h .proposal) 0 off, getD-set-other (l .valids) r q (h .valid) 0 off)
 
 -- what is put in the log of a round changes no round above
 pub same-above : (l : Log) (r : ℕ) (h : Heard) {q : ℕ} → r < q → told (tell l r h) q ≡ told l q

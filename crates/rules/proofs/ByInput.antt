@@ -14,7 +14,6 @@ use Rattle.rules.specs.State.{with-phase}
 use Rattle.rules.specs.Log.{Desk, with-state, per-round, logged, the-log}
 use Rattle.rules.specs.Doing.{prevote, precommit, start-round}
 use Rattle.rules.specs.Work.{take-in}
-use Rattle.rules.proofs.Firing.{enters}
 
 -- a message is put in its round's place of the log, and in the table at a place of that round or past it; every kind but 1 to 6
 -- does what kind 7 does
@@ -35,12 +34,3 @@ by-input P i d start message propose-timer prevote-timer precommit-timer =
     by-test P (eqb (i .kind) 6) prevote-timer (λ e6.
     let not-one : (n : ℕ) → eqb (i .kind) n ≡ false → i .kind ≡ n → ⊥ = eqb-false (i .kind) in
     precommit-timer (omega (arith, not-one 1 e1, not-one 2 e2, not-one 3 e3, not-one 4 e4, not-one 5 e5, not-one 6 e6))))))))
-
--- an input changes the number of rounds no more than a firing does
-pub take-in-rounds : (i : Input) (d : Desk) → take-in i d .rounds ≡ d .rounds
-unfolding prevote precommit the-log
-take-in-rounds i d =
-    by-input (λ u. u .rounds ≡ d .rounds) i d
-    (λ e. enters (i .offer) 0 (with-state (with-phase Running (d .state)) d) .ahead .rounds)
-    (λ h place low. refl) (λ e. refl) (λ e. refl)
-    (λ e. enters (i .offer) (suc (i .round .0)) d .ahead .rounds)

@@ -12,8 +12,9 @@ use Rattle.rules.specs.Doing.{current}
 use Rattle.rules.specs.Rules.{first-rule, is-rule, fire}
 use Rattle.rules.specs.Work.{take-in, fire-all, most-firings, worked}
 use Rattle.rules.proofs.ByRule.{not-a-rule}
-use Rattle.rules.proofs.ByInput.{take-in-rounds}
-use Rattle.rules.proofs.Room.{room, unless, room-most, unless-most, run-most}
+use Rattle.rules.proofs.Same.{take-in-same}
+use Rattle.rules.specs.Room.{room, unless}
+use Rattle.rules.proofs.Room.{room-most, unless-most, run-most}
 use Rattle.rules.proofs.Firing.{Within, within-49, by-firing}
 
 -- what is left to do: in this round, and in those after it
@@ -50,4 +51,4 @@ call-ends offer d = ends (most-firings (d .rounds)) offer d (left-most d)
 pub work-ends : (i : Input) (d : Desk) → first-rule (worked i d) ≡ Nothing
 unfolding worked
 work-ends i d =
-    ends (most-firings (d .rounds)) (i .offer) (take-in i d) (omega (arith, left-most (take-in i d), take-in-rounds i d))
+    ends (most-firings (d .rounds)) (i .offer) (take-in i d) (omega (arith, left-most (take-in i d), take-in-same i d .rounds))

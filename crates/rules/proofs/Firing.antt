@@ -15,7 +15,8 @@ use Rattle.rules.specs.Doing.{current, step, own, sheet-to-propose, prop
 use Rattle.rules.specs.Rules.{applies-22, applies-28, applies-34, applies-36, applies-44, applies-47, vote-22, vote-28, fire-36, fire-49}
 use Rattle.rules.specs.Rules.{applies-55, calls, past-calling-round, backed-sheet, closing-sheet, closing-round, first-rule, is-rule, fire}
 use Rattle.rules.proofs.ByRule.{Runs, Quiet, by-rule}
-use Rattle.rules.proofs.Room.{room, unless, run-left, propose-left, prevote-left, unless-not, running-left}
+use Rattle.rules.specs.Room.{room, unless, run-left}
+use Rattle.rules.proofs.Room.{propose-left, prevote-left, unless-not, running-left}
 use Rattle.rules.proofs.Sends.{one-more}
 use Rattle.rules.proofs.Ahead.{Ahead, same-above}
 

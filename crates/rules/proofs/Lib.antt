@@ -1,10 +1,13 @@
 -- Laws and examples of the rules.
 pub mod ByRule
 pub mod ByInput
+pub mod Hearing
+pub mod Deeds
 pub mod Room
 pub mod Sends
 pub mod Ahead
 pub mod Firing
+pub mod Same
 pub mod Ends
 pub mod Behind
 pub mod Reach

@@ -1,6 +1,5 @@
--- What a kiosk can still do in its current round, counted: the steps to go, the two timers not asked for yet, and settling; what the
--- rules' tests say of it, and the most it can be. Assumes nothing.
-use Prim.Native.Nat.{ℕ, _+_, _≤_}
+-- Laws of what a kiosk can still do in its current round: what the rules' tests say of it, and the most it can be. Assumes nothing.
+use Prim.Native.Nat.{_≤_}
 use mathlib.Core.Path.{_≡_, refl}
 use mathlib.Core.Bool.{Bool, true, false, not, false≢true}
 use native.Mathlib.Omega.{arith}
@@ -10,27 +9,7 @@ use Rattle.rules.specs.declared.Step.{Step}
 use Rattle.rules.specs.declared.Step.the-variants.{Propose, Prevote, Precommit}
 use Rattle.rules.specs.State.{is-running, is-propose, is-prevote}
 use Rattle.rules.specs.Log.{Desk}
-
--- the votes that a step has before it, a mark that is not set yet, and a height that has not ended
-abbrev pub steps-left : Step → ℕ
-steps-left Propose = 2
-steps-left Prevote = 1
-steps-left Precommit = 0
-
-abbrev pub unless : Bool → ℕ
-unless true = 0
-unless false = 1
-
-abbrev pub run-left : Phase → ℕ
-run-left Fresh = 0
-run-left Running = 1
-run-left (Settled r) = 0
-
--- the most outputs that the rules of the current round can still send
-abbrev pub room : Desk → ℕ
-room d =
-    let s = d .state .stand in
-    steps-left (s .step) + unless (s .asked .prevote) + unless (s .asked .precommit) + run-left (d .state .phase)
+use Rattle.rules.specs.Room.{steps-left, unless, run-left, room}
 
 -- what each test says of it
 pub propose-left : (s : Step) → is-propose s ≡ true → steps-left s ≡ 2
