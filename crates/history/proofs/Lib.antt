@@ -1,0 +1,16 @@
+-- What a journal remembers.
+pub mod Images
+pub mod Finding
+pub mod Telling
+pub mod Openings
+pub mod Steady
+pub mod Puts
+pub mod Names
+pub mod Readback
+pub mod Counting
+pub mod Room
+pub mod Silence
+pub mod Calls
+pub mod Replies
+pub mod Keeping
+pub mod Examples
