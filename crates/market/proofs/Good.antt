@@ -1,0 +1,222 @@
+-- What holds of a rule-keeping kiosk in the middle of a call: each vote in its log is one that it put out or that arrived, and its
+-- outputs are by its lock. Assumes nothing.
+use Prim.Native.Nat.{ℕ, _≤_, _<_}
+use mathlib.Core.Path.{_≡_, refl, sym, ap, _∙_}
+use mathlib.Core.Logic.{inl, inr, ⊎-elim}
+use mathlib.Core.List.{List, [], _∷_, _++_, append-assoc}
+use mathlib.Core.Bool.{Bool, true, _&&_}
+use native.Mathlib.Omega.{arith}
+use lib.ListN.{length, length-set}
+use lib.Dec.{eqb}
+use borrow.Author.Tests.{eqb-true}
+use Rattle.words.specs.Marks.{marked}
+use Rattle.words.proofs.Choice.{and-left, and-right}
+use Rattle.words.proofs.Members.{In-left, In-right}
+use Rattle.roll.specs.declared.Roll.{Roll}
+use Rattle.roll.specs.Weighing.{large, power-of, total-of}
+use Rattle.rules.specs.declared.Output.{Output}
+use Rattle.rules.specs.State.{most-rounds}
+use Rattle.rules.specs.Log.{Desk, table-length, proposal-place, prevote-place, precommit-place, heard, prevoted, precommitted, hear-proposal, hear-prevote, hear-precommit, prevote-power-for, precommit-power-for}
+use Rattle.rules.specs.Doing.{current}
+use Rattle.rules.specs.Rules.{is-large}
+use Rattle.rules.proofs.Hearing.{prevote-heard, precommit-heard, prevote-apart, precommit-apart, proposal-prevotes, proposal-precommits}
+use Rattle.agreement.specs.Weigh.{scale-of}
+use Rattle.agreement.specs.Moves.{Out, View, Move, Kept}
+use Rattle.agreement.specs.Honest.{Kind, pv, pc, said, Arrived, From, Heard}
+use Rattle.agreement.proofs.Lock.{kept}
+use Rattle.market.specs.Seat.{act, acts, view}
+
+-- ## Outputs
+
+pub acts-append : (a b : List Output) → acts (a ++ b) ≡ acts a ++ acts b
+acts-append [] b = refl
+acts-append (x ∷ a) b = ap (λ (l : List Out). act x ∷ l) (acts-append a b)
+
+-- more outputs, after others
+pub acts-more : (before : List Out) (os new : List Output) → before ++ acts (os ++ new) ≡ (before ++ acts os) ++ acts new
+acts-more before os new = ap (λ (l : List Out). before ++ l) (acts-append os new) ∙ sym (append-assoc before (acts os) (acts new))
+
+-- more evidence keeps what is kept
+weaker :
+    {PV PC QV QC : ℕ → ℕ → Type 0} {a : View} {os : List Out} →
+    ((r w : ℕ) → PV r w → QV r w) →
+    ((r w : ℕ) → PC r w → QC r w) →
+    Kept PV PC a os →
+    Kept QV QC a os
+weaker f g k = record {
+  step-ok = k .step-ok;
+  lock-past = k .lock-past;
+  lock-backed = λ l e. f _ _ (k .lock-backed l e);
+  prevote-past = k .prevote-past;
+  precommit-past = k .precommit-past;
+  precommit-lock = k .precommit-lock;
+  one-prevote = k .one-prevote;
+  one-precommit = k .one-precommit;
+  precommit-backed = λ r w hw h. f r w (k .precommit-backed r w hw h);
+  lock-kept = λ r₀ r v w hv hw hr h g.
+      let m = k .lock-kept r₀ r v w hv hw hr h g in
+      (m .0, m .1, m .2, f _ _ (m .3));
+  settled-backed = λ r w h. (k .settled-backed r w h .0, g r w (k .settled-backed r w h .1));
+}
+
+-- ## The votes of a log, by type
+
+abbrev pub marks : Kind → Desk → ℕ → ℕ
+marks pv d r = heard d r .prevotes
+marks pc d r = heard d r .precommits
+
+abbrev pub name-of : Kind → Desk → ℕ → ℕ → ℕ
+name-of pv d r j = prevoted d r j
+name-of pc d r j = precommitted d r j
+
+abbrev pub hear : Kind → Desk → ℕ → ℕ → ℕ → Desk
+hear pv d r i name = hear-prevote d r i name
+hear pc d r i name = hear-precommit d r i name
+
+abbrev pub power-for : Kind → Desk → ℕ → ℕ → ℕ
+power-for pv d r name = prevote-power-for d r name
+power-for pc d r name = precommit-power-for d r name
+
+-- what a message leaves as it is
+record Beside (d u : Desk) : Type 0 where
+  roll-same : u .state .roll ≡ d .state .roll
+  rounds-same : u .rounds ≡ d .rounds
+  round-same : current u ≡ current d
+  length-same : length (u .table) ≡ length (d .table)
+
+beside-vote : (k : Kind) (d : Desk) (r i name : ℕ) → Beside d (hear k d r i name)
+unfolding hear-prevote hear-precommit
+beside-vote pv d r i name = record { roll-same = refl; rounds-same = refl; round-same = refl; length-same = length-set (d .table) (prevote-place r i) name }
+beside-vote pc d r i name = record { roll-same = refl; rounds-same = refl; round-same = refl; length-same = length-set (d .table) (precommit-place r i) name }
+
+beside-proposal : (d : Desk) (r : ℕ) (good : Bool) (valid name : ℕ) → Beside d (hear-proposal d r good valid name)
+unfolding hear-proposal
+beside-proposal d r good valid name = record { roll-same = refl; rounds-same = refl; round-same = refl; length-same = length-set (d .table) (proposal-place r) name }
+
+-- ## The invariant
+
+module _ (roll : Roll) (A : Arrived) where
+  abbrev Said : List Out → Kind → ℕ → ℕ → ℕ → Type 0
+  Said os = From (roll .own) A os
+
+  abbrev pub Hears : List Out → Kind → ℕ → ℕ → Type 0
+  Hears os = Heard (scale-of roll) (roll .own) A os
+
+  -- the log and the table, where os is all that the kiosk put out
+  pub record Logs (os : List Out) (d : Desk) : Type 0 where
+    pub roll-is : d .state .roll ≡ roll
+    pub rounds-are : d .rounds ≡ most-rounds
+    pub round : current d < most-rounds
+    pub places : length (d .table) ≡ table-length
+    pub votes : (k : Kind) (r j : ℕ) → j < roll .kiosks → marked (marks k d r) j ≡ true → Said os k r (name-of k d r j) j
+
+  pub record Good (os : List Out) (d : Desk) : Type 0 where
+    pub logs : Logs os d
+    pub kept : Kept (Hears os pv) (Hears os pc) (view d) os
+
+  from-more : (os o : List Out) (k : Kind) (r w j : ℕ) → Said os k r w j → Said (os ++ o) k r w j
+  from-more os o k r w j (inl h) = inl (h .0, In-left (said k r w) os o (h .1))
+  from-more os o k r w j (inr a) = inr a
+
+  pub heard-more : (os o : List Out) (k : Kind) (r w : ℕ) → Hears os k r w → Hears (os ++ o) k r w
+  heard-more os o k r w h = record { seats = h .seats; large = h .large; from = λ j l t. from-more os o k r w j (h .from j l t) }
+
+  pub logs-more : (os o : List Out) (d : Desk) → Logs os d → Logs (os ++ o) d
+  logs-more os o d l = record {
+    roll-is = l .roll-is;
+    rounds-are = l .rounds-are;
+    round = l .round;
+    places = l .places;
+    votes = λ k r j hj t. from-more os o k r _ j (l .votes k r j hj t);
+  }
+
+  -- another stand, lock or phase, and outputs
+  pub logs-same : (os : List Out) (d u : Desk) → Logs os d → u .rounds ≡ d .rounds → u .state .roll ≡ d .state .roll → current u < most-rounds
+      → u .state .log ≡ d .state .log → u .table ≡ d .table → Logs os u
+  logs-same os d u l er eo hc el et = record {
+    roll-is = eo ∙ l .roll-is;
+    rounds-are = er ∙ l .rounds-are;
+    round = hc;
+    places = rw et (l .places);
+    votes = votes-same;
+  }
+    where
+      votes-same : (k : Kind) (r j : ℕ) → j < roll .kiosks → marked (marks k u r) j ≡ true → Said os k r (name-of k u r j) j
+      votes-same pv r j hj = rw (el, et) (l .votes pv r j hj)
+      votes-same pc r j hj = rw (el, et) (l .votes pc r j hj)
+
+  -- a move, and a log that grew by what was said or arrived
+  pub advance : (os o : List Out) (d u : Desk) → Good os d → Logs (os ++ o) u → Move (Hears (os ++ o) pv) (Hears (os ++ o) pc) (view d) o (view u) → Good (os ++ o) u
+  advance os o d u g l m = record {
+    logs = l;
+    kept = kept _ _ (view d) (view u) os o (weaker (heard-more os o pv) (heard-more os o pc) (g .kept)) m;
+  }
+
+  -- the own vote: said and logged
+  pub own-vote : (os : List Out) (k : Kind) (r w : ℕ) → Said (os ++ (said k r w ∷ [])) k r w (roll .own)
+  own-vote os k r w = inl (refl, In-right (said k r w) os (said k r w ∷ []) (inl refl))
+
+  module _ (few : roll .kiosks ≤ 32) (os : List Out) (d : Desk) (l : Logs os d) where
+    -- ## Messages heard
+
+    module _ (u : Desk) (b : Beside d u) where
+      heard-logs : ((k : Kind) (r j : ℕ) → j < roll .kiosks → marked (marks k u r) j ≡ true → Said os k r (name-of k u r j) j) → Logs os u
+      heard-logs votes = record {
+        roll-is = b .roll-same ∙ l .roll-is;
+        rounds-are = b .rounds-same ∙ l .rounds-are;
+        round = rw (b .round-same) (l .round);
+        places = b .length-same ∙ l .places;
+        votes = votes;
+      }
+
+      -- a vote that the message did not touch
+      untouched : (k : Kind) (q j : ℕ) → j < roll .kiosks → (marks k u q ≡ marks k d q) × (name-of k u q j ≡ name-of k d q j)
+          → marked (marks k u q) j ≡ true → Said os k q (name-of k u q j) j
+      untouched k q j hj e t = rw (e .1) (l .votes k q j hj (rw (e .0) at t))
+
+    pub vote-logs : (k : Kind) (r i name : ℕ) → r < most-rounds → i < 32 → Said os k r name i → Logs os (hear k d r i name)
+    vote-logs k r i name hr hi new = heard-logs (hear k d r i name) (beside-vote k d r i name) (go k new)
+      where
+        low : (j : ℕ) → j < roll .kiosks → j < 32
+        low j hj = omega (arith, few)
+
+        go : (k : Kind) → Said os k r name i → (k′ : Kind) (q j : ℕ) → j < roll .kiosks → marked (marks k′ (hear k d r i name) q) j ≡ true
+            → Said os k′ q (name-of k′ (hear k d r i name) q j) j
+        go pv new pv q j hj t =
+            ⊎-elim (λ h. rw (h .2, h .0, h .1) new) (λ h. rw (h .1) (l .votes pv q j hj (h .0)))
+            (prevote-heard d r i name hi q j (low j hj) (rw (l .places) (omega arith)) t)
+        go pc new pc q j hj t =
+            ⊎-elim (λ h. rw (h .2, h .0, h .1) new) (λ h. rw (h .1) (l .votes pc q j hj (h .0)))
+            (precommit-heard d r i name hi q j (low j hj) (rw (l .places) (omega arith)) t)
+        go pv new pc q j hj t = untouched (hear-prevote d r i name) (beside-vote pv d r i name) pc q j hj (prevote-apart d r i name hi q j (low j hj)) t
+        go pc new pv q j hj t = untouched (hear-precommit d r i name) (beside-vote pc d r i name) pv q j hj (precommit-apart d r i name hi q j (low j hj)) t
+
+    pub proposal-logs : (r : ℕ) (good : Bool) (valid name : ℕ) → Logs os (hear-proposal d r good valid name)
+    proposal-logs r good valid name = heard-logs u b go
+      where
+        u : Desk
+        u = hear-proposal d r good valid name
+
+        b : Beside d u
+        b = beside-proposal d r good valid name
+
+        go : (k : Kind) (q j : ℕ) → j < roll .kiosks → marked (marks k u q) j ≡ true → Said os k q (name-of k u q j) j
+        go pv q j hj = untouched u b pv q j hj (proposal-prevotes d r good valid name q j (omega (arith, few)))
+        go pc q j hj = untouched u b pc q j hj (proposal-precommits d r good valid name q j (omega (arith, few)))
+
+    -- ## A large set in the log is heard
+
+    seats-heard : (k : Kind) (r w : ℕ) → large (total-of roll) (power-of roll (λ j. marked (marks k d r) j && eqb (name-of k d r j) w)) ≡ true → Hears os k r w
+    seats-heard k r w t = record {
+      seats = λ j. marked (marks k d r) j && eqb (name-of k d r j) w;
+      large = t;
+      from = λ j hj s.
+          let m = marked (marks k d r) j in
+          let n = eqb (name-of k d r j) w in
+          rw (eqb-true (name-of k d r j) w (and-right m n s)) at (l .votes k r j hj (and-left m n s));
+    }
+
+    pub votes-heard : (k : Kind) (r w : ℕ) → is-large d (power-for k d r w) ≡ true → Hears os k r w
+    unfolding prevote-power-for precommit-power-for
+    votes-heard pv r w t = seats-heard pv r w (rw (l .roll-is) at t)
+    votes-heard pc r w t = seats-heard pc r w (rw (l .roll-is) at t)

@@ -1,0 +1,10 @@
+-- Demand 3: a kiosk of the rules keeps its lock, its journal keeps its history, and so no two settle different sheets.
+pub mod Good
+pub mod Moving
+pub mod Honest
+pub mod Settled
+pub mod Kiosks
+pub mod OneSheet
+pub mod Schedule
+pub mod Examples
+pub mod Premises

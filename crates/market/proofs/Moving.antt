@@ -1,0 +1,174 @@
+-- Each deed of a kiosk is a move of agreement's, and so what `Good` says is kept by it. Assumes nothing.
+use Prim.Native.Nat.{ℕ, _≤_, _<_}
+use mathlib.Core.Path.{_≡_, refl, sym, ap, subst, _∙_}
+use mathlib.Core.Logic.{⊎-elim}
+use mathlib.Core.List.{List, [], _∷_, _++_}
+use mathlib.Core.Bool.{true, _&&_, not, false≢true}
+use native.Mathlib.Omega.{arith}
+use lib.Dec.{eqb}
+use Rattle.words.proofs.Choice.{by-test}
+use Rattle.roll.specs.declared.Roll.{Roll}
+use Rattle.roll.specs.Weighing.{proposer}
+use Rattle.rules.specs.declared.Step.{Step}
+use Rattle.rules.specs.declared.Step.the-variants.{Propose, Prevote, Precommit}
+use Rattle.rules.specs.declared.Output.{Output}
+use Rattle.rules.specs.State.{most-rounds, is-propose, is-prevote, held, entered, with-stand, with-locked}
+use Rattle.rules.specs.Log.{Desk, with-state, hear-proposal, hear-prevote, hear-precommit}
+use Rattle.rules.specs.Doing.{current, step, own, output, sheet-to-propose, propose, prevote, precommit, ask-propose, ask-prevote, ask-precommit, start-round}
+use Rattle.rules.specs.Rules.{is-large, fire-49}
+use Rattle.rules.proofs.Deeds.{Prevotes, nil, afresh, again, Closes, holding, Deed, prevotes, precommits-nil, locks, holds, asks-prevote, asks-precommit, settles, enters}
+use Rattle.agreement.specs.Moves.{Out, settled, proposal, other, View, SameLock, Quiet, Move, quiet, enter, prevote-nil, prevote-new, prevote-old, precommit-nil, precommit-sheet, settle}
+use Rattle.agreement.specs.Honest.{Kind, pv, pc, said, Arrived}
+use Rattle.market.specs.Seat.{act, acts, step-number, view}
+use Rattle.market.proofs.Good.{acts-more, hear, power-for, Hears, Logs, Good, heard-more, logs-more, logs-same, advance, own-vote, vote-logs, proposal-logs, votes-heard}
+
+-- ## Tests
+
+at-propose : (p : Step) → is-propose p ≡ true → step-number p ≡ 0
+at-propose Propose e = refl
+at-propose Prevote e = absurd (false≢true e)
+at-propose Precommit e = absurd (false≢true e)
+
+at-prevote : (p : Step) → is-prevote p ≡ true → step-number p ≡ 1
+at-prevote Propose e = absurd (false≢true e)
+at-prevote Prevote e = refl
+at-prevote Precommit e = absurd (false≢true e)
+
+zero-one : _≡_ {A = ℕ} 0 1 → ⊥
+zero-one e = omega arith
+
+-- a timer, and a proposal, is no vote and no settling
+quiet-other : Quiet (other ∷ [])
+quiet-other r w = (⊎-elim (λ e. zero-one (cc)) (λ h. h), ⊎-elim (λ e. zero-one (cc)) (λ h. h), ⊎-elim (λ e. zero-one (cc)) (λ h. h))
+
+quiet-proposal : (l : List ℕ) → Quiet (proposal l ∷ [])
+quiet-proposal l r w = (⊎-elim (λ e. zero-one (cc)) (λ h. h), ⊎-elim (λ e. zero-one (cc)) (λ h. h), ⊎-elim (λ e. zero-one (cc)) (λ h. h))
+
+-- where a kiosk stands once it is at this step of this round, with the lock that it has
+abbrev standing : ℕ → ℕ → Desk → View
+standing r n d = record { round = r; step = n; lr = view d .lr; lv = view d .lv }
+
+same-lock : (d : Desk) (r n : ℕ) → SameLock (view d) (standing r n d)
+same-lock d r n = record { lr = refl; lv = refl }
+
+-- ## Deeds, before is what the kiosk put out before the call
+
+module _ (roll : Roll) (A : Arrived) (few : roll .kiosks ≤ 32) (own-seat : roll .own < roll .kiosks) (before : List Out) where
+  abbrev pub all-out : Desk → List Out
+  all-out d = before ++ acts (d .sent)
+
+  abbrev pub Next : Desk → Type 0
+  Next d = Good roll A (all-out d) d
+
+  abbrev Moves : List Out → View → List Out → View → Type 0
+  Moves os = Move (Hears roll A os pv) (Hears roll A os pc)
+
+  -- one output more
+  out-next : (d u : Desk) (o : Output) → Next d → u .sent ≡ d .sent ++ (o ∷ []) → Logs roll A (all-out d ++ (act o ∷ [])) u
+      → Moves (all-out d ++ (act o ∷ [])) (view d) (act o ∷ []) (view u) → Next u
+  out-next d u o g es l m =
+      let all : all-out u ≡ all-out d ++ (act o ∷ []) = ap (λ (x : List Output). before ++ acts x) es ∙ acts-more before (d .sent) (o ∷ []) in
+      subst (λ (x : List Out). Good roll A x u) (sym all) (advance roll A (all-out d) (act o ∷ []) d u g l m)
+
+  -- an output that goes in no log
+  told-next : (d u : Desk) (o : Output) → Next d → u .sent ≡ d .sent ++ (o ∷ []) → Logs roll A (all-out d) u
+      → Moves (all-out d ++ (act o ∷ [])) (view d) (act o ∷ []) (view u) → Next u
+  told-next d u o g es l m = out-next d u o g es (logs-more roll A (all-out d) (act o ∷ []) u l) m
+
+  -- a vote, from where it is said: c has the log of d
+  vote-next : (k : Kind) (name : ℕ) (d c u : Desk) (o : Output) → Next d → Logs roll A (all-out d) c → act o ≡ said k (current c) name
+      → u .sent ≡ d .sent ++ (o ∷ []) → u .rounds ≡ c .rounds → u .state .roll ≡ c .state .roll → current u ≡ current c
+      → u .state .log ≡ hear k c (current c) (own c) name .state .log → u .table ≡ hear k c (current c) (own c) name .table
+      → Moves (all-out d ++ (act o ∷ [])) (view d) (act o ∷ []) (view u) → Next u
+  vote-next k name d c u o g lc eo es en er ec el et m =
+      let os : List Out = all-out d in
+      let h = hear k c (current c) (own c) name in
+      let all : List Out = os ++ (act o ∷ []) in
+      let lh : Logs roll A all h
+      = vote-logs roll A few all c (logs-more roll A os (act o ∷ []) c lc) k (current c) (own c) name (lc .round)
+      (rw (lc .roll-is) (omega (arith, few, own-seat)))
+      (rw (lc .roll-is, eo) (own-vote roll A os k (current c) name)) in
+      out-next d u o g es (logs-same roll A all h u lh (en ∙ sym (lh .rounds-are ∙ sym (lc .rounds-are))) (er ∙ lc .roll-is ∙ sym (lh .roll-is)) (rw ec (lc .round)) el et) m
+
+  prevote-next : (name : ℕ) (d : Desk) → Next d →
+      (let o : List Out = said pv (current d) name ∷ [] in Moves (all-out d ++ o) (view d) o (standing (current d) 1 d)) → Next (prevote name d)
+  unfolding prevote hear-prevote
+  prevote-next name d g m = vote-next pv name d d (prevote name d) (output 2 (current d) 0 name) g (g .logs) refl refl refl refl refl refl refl m
+
+  precommit-next : (name : ℕ) (d c : Desk) → Next d → Logs roll A (all-out d) c → c .sent ≡ d .sent →
+      (let o : List Out = said pc (current c) name ∷ [] in Moves (all-out d ++ o) (view d) o (standing (current c) 2 c)) → Next (precommit name c)
+  unfolding precommit hear-precommit
+  precommit-next name d c g lc es m =
+      let o = output 3 (current c) 0 name in
+      vote-next pc name d c (precommit name c) o g lc refl (ap (λ (x : List Output). x ++ (o ∷ [])) es) refl refl refl refl refl m
+
+  -- a round entered, with a proposal or a timer
+  pub start-next : (offer r : ℕ) (d : Desk) → Next d → r < most-rounds →
+      ((os o : List Out) → Quiet o → Moves os (view d) o (standing r 0 d)) → Next (start-round offer r d)
+  unfolding start-round propose ask-propose hear-proposal
+  start-next offer r d g hr m =
+      let e = with-state (with-stand (entered r) (d .state)) d in
+      let sheet = sheet-to-propose offer d in
+      let valid = d .state .valid .next in
+      let p = propose valid sheet e in
+      let h = hear-proposal e r true valid sheet in
+      let os = all-out d in
+      let l = logs-same roll A os d e (g .logs) refl refl hr refl refl in
+      by-test Next (eqb (proposer (d .state .roll) r) (own d) && not (eqb sheet 0))
+      (λ t.
+      told-next d p (output 1 r valid sheet) g refl (logs-same roll A os h p (proposal-logs roll A few os e l r true valid sheet) refl refl hr refl refl)
+      (m _ _ (quiet-proposal (r ∷ valid ∷ sheet ∷ []))))
+      (λ t. told-next d (ask-propose e) (output 4 r 0 0) g refl (logs-same roll A os e (ask-propose e) l refl refl hr refl refl) (m _ _ quiet-other))
+
+  -- ## Each deed
+
+  module _ (d : Desk) (g : Next d) where
+    -- what the log shows, the kiosk has heard, whatever it puts out next
+    shown : (k : Kind) (r name : ℕ) (o : List Out) → is-large d (power-for k d r name) ≡ true → Hears roll A (all-out d ++ o) k r name
+    shown k r name o big = heard-more roll A (all-out d) o k r name (votes-heard roll A few (all-out d) d (g .logs) k r name big)
+
+    stays : SameLock (view d) (view d)
+    stays = same-lock d (current d) (step-number (step d))
+
+    same-log : (u : Desk) → u .rounds ≡ d .rounds → u .state .roll ≡ d .state .roll → current u ≡ current d → u .state .log ≡ d .state .log
+        → u .table ≡ d .table → Logs roll A (all-out d) u
+    same-log u en er ec el et = logs-same roll A (all-out d) d u (g .logs) en er (rw ec (g .logs .round)) el et
+
+    next-prevote : (name : ℕ) → step-number (step d) ≡ 0 → Prevotes d name → Next (prevote name d)
+    next-prevote name s (nil e) = rw e (prevote-next 0 d g (prevote-nil refl s refl refl (same-lock d (current d) 1)))
+    next-prevote name s (afresh ok e v free) = prevote-next name d g (prevote-new name refl s refl refl (same-lock d (current d) 1) free)
+    next-prevote name s (again vr ok e v less big free) =
+        prevote-next name d g
+        (prevote-old name vr refl s refl refl (same-lock d (current d) 1) less
+        (shown pv vr name (said pv (current d) name ∷ []) big) free)
+
+    next-asked : Next (ask-prevote d) × Next (ask-precommit d)
+    unfolding ask-prevote ask-precommit
+    next-asked = (
+      told-next d (ask-prevote d) (output 5 (current d) 0 0) g refl (same-log (ask-prevote d) refl refl refl refl refl) (quiet quiet-other refl refl stays),
+      told-next d (ask-precommit d) (output 6 (current d) 0 0) g refl (same-log (ask-precommit d) refl refl refl refl refl) (quiet quiet-other refl refl stays),
+    )
+
+    next-settled : (r name : ℕ) → Closes d r name → Next (fire-49 r name d)
+    unfolding fire-49
+    next-settled r name c =
+        told-next d (fire-49 r name d) (output 7 r 0 name) g refl (same-log (fire-49 r name d) refl refl refl refl refl)
+        (settle r name refl (c .some) (shown pc r name (settled r name ∷ []) (c .large)) refl refl stays)
+
+  pub deed-next : (offer : ℕ) (d u : Desk) → Deed offer d u → Next d → Next u
+  deed-next offer d u (prevotes name s f e) g = subst Next (sym e) (next-prevote d g name (at-propose (step d) s) f)
+  deed-next offer d u (precommits-nil s e) g =
+      subst Next (sym e) (precommit-next 0 d d g (g .logs) refl (precommit-nil refl (at-prevote (step d) s) refl refl (same-lock d (current d) 2)))
+  deed-next offer d u (locks name s f e) g =
+      let c = with-state (with-locked (held (current d) name) (holding name d)) d in
+      subst Next (sym e)
+      (precommit-next name d c g (same-log d g c refl refl refl refl refl) refl
+      (precommit-sheet name refl (at-prevote (step d) s) refl refl refl refl
+      (shown d g pv (current d) name (said pc (current d) name ∷ []) (f .large))))
+  deed-next offer d u (holds name p s f e) g =
+      subst Next (sym e) (record { logs = same-log d g (with-state (holding name d) d) refl refl refl refl refl; kept = g .kept })
+  deed-next offer d u (asks-prevote s a l e) g = subst Next (sym e) (next-asked d g .0)
+  deed-next offer d u (asks-precommit a l e) g = subst Next (sym e) (next-asked d g .1)
+  deed-next offer d u (settles r name f e) g = subst Next (sym e) (next-settled d g r name f)
+  deed-next offer d u (enters r more there e) g =
+      subst Next (sym e) (start-next offer r d g (omega (arith, g .logs .rounds-are)) (λ os o q. enter q more refl (same-lock d r 0)))
