@@ -28,7 +28,7 @@ extern "C" {
 #define SLIP_ROUNDS 16    /* rounds 0 to 15 */
 #define SLIP_TABLE 1040   /* the numbers of the table */
 #define SLIP_SENT 6       /* the most outputs of a call */
-#define SLIP_ROOMY 28499  /* journal bytes for 32 kiosks in which no call is refused for room; also the most that is listed */
+#define SLIP_ROOMY 28499  /* journal bytes for 32 kiosks in which no call, from opening on, is refused for room (proved: put-answers); also the most that is listed */
 #define SLIP_TEXT 114196  /* the text room that every listing fits */
 
 /* What a call answers. */
