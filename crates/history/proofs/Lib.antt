@@ -12,5 +12,5 @@ pub mod Room
 pub mod Silence
 pub mod Calls
 pub mod Replies
-pub mod Keeping
+pub mod OneHistory
 pub mod Examples

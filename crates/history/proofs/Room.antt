@@ -40,10 +40,11 @@ use Rattle.kiosk.specs.Calls.{Called, put}
 use Rattle.kiosk.specs.Judged.{judged}
 use Rattle.kiosk.proofs.Accepted.{Passes, accepted-is, accepted-passes}
 use Rattle.kiosk.proofs.Taken.{Message, Taken, starts, hears-proposal, hears-prevote, hears-precommit, timer, taken, timer-current, timer-propose, timer-prevote, timer-next}
-use Rattle.history.specs.Histories.{Call, Past, does, after, takes, Told, told-none, told-more, History}
+use Rattle.history.specs.Histories.{Call, Past, does, after, takes, History}
 use Rattle.history.specs.Counting.{sum-below, messages-left, all-messages-left, stand-left, phase-left, bytes-left, room-for}
 use Rattle.history.proofs.Counting.{own-marked, other-marked, none-marked, sum-ext, sum-const, tells}
 use Rattle.history.proofs.Finding.{judged-area}
+use Rattle.history.proofs.Telling.{history-keeps}
 use Rattle.history.proofs.Steady.{never-impossible}
 
 -- ## What the count needs of a desk
@@ -306,16 +307,12 @@ rooms-after p i t r =
     let w = call-pays p i t (r .ok) in
     record { ok = rw e at (w .still); room = omega (arith, r .room, w .pays, same-left n u e) }
 
-rooms-on : {roll : Roll} {p q : Past} {cs : List Call} → Told p cs q → Rooms roll p → Rooms roll q
-rooms-on told-none r = r
-rooms-on (told-more {p} {q} {c} {cs} t w e later) r = rooms-on later (rooms-after p (c .input) t r)
-
 rooms : {roll : Roll} {cs : List Call} {p : Past} → History roll cs p → Rooms roll p
 unfolding bytes-left told
 rooms {roll} h =
     let own : roll .own < roll .kiosks = ltb-true (roll .own) (roll .kiosks) (h .created .own) in
     let n = rounds-of (before-start roll) in
-    rooms-on (h .told)
+    history-keeps (Rooms roll) rooms-after h
     (record {
       ok = record { there = omega arith; sized = record { prevotes = refl; precommits = refl; proposals = refl; valids = refl } };
       room = omega (arith, begun-left roll n quiet (entered 0) own (λ r. rw (zeros-at n r)));

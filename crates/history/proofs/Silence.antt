@@ -5,7 +5,7 @@ use mathlib.Core.Path.{_≡_, refl, ap, sym, _∙_}
 use mathlib.Core.List.{List}
 use mathlib.Core.Bool.{Bool, true, false, _&&_, not, true≢false}
 use native.Mathlib.Omega.{arith}
-use borrow.Author.Tests.{ltb-true, eqb-true, eqb-false, not-true}
+use borrow.Author.Tests.{ltb-true, eqb-true, eqb-false}
 use lib.Dec.{eqb}
 use Rattle.words.specs.Marks.{marked}
 use Rattle.words.proofs.Choice.{by-test, by-cases}
@@ -20,18 +20,18 @@ use Rattle.rules.specs.declared.Rule.the-variants.{Nothing}
 use Rattle.rules.specs.State.{rounds-of, is-fresh, spoken, entered, with-phase, with-stand}
 use Rattle.rules.specs.Log.{Desk, desk, with-state, tell, heard, table-length, proposal-place, prevote-place, precommit-place, hear-proposal, hear-prevote, hear-precommit}
 use Rattle.rules.specs.Doing.{current, own, propose, prevote, precommit, ask-propose, ask-prevote, ask-precommit, sheet-to-propose, start-round}
-use Rattle.rules.specs.Rules.{first-rule, is-rule, fire-49}
+use Rattle.rules.specs.Rules.{first-rule, fire-49}
 use Rattle.rules.specs.Work.{worked}
-use Rattle.rules.proofs.ByRule.{Runs, not-a-rule}
+use Rattle.rules.proofs.ByRule.{Runs}
 use Rattle.rules.proofs.Hearing.{sized-tell, proposal-prevotes, proposal-precommits, proposal-other, proposal-spoken}
 use Rattle.rules.proofs.Hearing.{prevote-apart, prevote-keeps, prevote-unheard, precommit-apart, precommit-keeps, precommit-unheard}
 use Rattle.rules.proofs.Deeds.{Deed, prevotes, precommits-nil, locks, holds, asks-prevote, asks-precommit, settles, enters}
-use Rattle.refusals.specs.Possible.{at-rest}
-use Rattle.kiosk.proofs.Accepted.{Passes, fits, accepted-fits, accepted-passes}
+use Rattle.kiosk.proofs.Accepted.{rests, Passes, fits, accepted-fits, accepted-passes}
 use Rattle.kiosk.proofs.Taken.{Taken, starts, hears-proposal, hears-prevote, hears-precommit, timer, call-keeps}
-use Rattle.history.specs.Histories.{Call, Past, after, takes, Told, told-none, told-more, History}
+use Rattle.history.specs.Histories.{Call, Past, after, takes, History}
 use Rattle.history.specs.Remembering.{Silent}
 use Rattle.history.proofs.Openings.{created-count}
+use Rattle.history.proofs.Telling.{history-keeps}
 use Rattle.history.proofs.Steady.{steady}
 use Rattle.history.proofs.Room.{Roomy-so, rounds-stay}
 
@@ -139,15 +139,11 @@ hushed-after p i t h =
     let few = accepted-fits (p .kiosk .used) (p .kiosk) (p .table) i t .few-kiosks in
     rw (rounds-stay p i) at (works-hushed d i few h (accepted-passes (p .kiosk .used) (p .kiosk) (p .table) i t))
 
-hushed-on : {p q : Past} {cs : List Call} → Told p cs q → Hushed-past p → Hushed-past q
-hushed-on told-none h = h
-hushed-on (told-more {p} {q} {c} {cs} t w e later) h = hushed-on later (hushed-after p (c .input) t h)
-
 -- places not heard hold 0
 pub silent-places : {roll : Roll} {cs : List Call} {p : Past} → History roll cs p → Silent (rounds-of (p .kiosk .state)) (p .kiosk .state .log) (p .table)
 silent-places {roll} h =
     let own = ltb-true (roll .own) (roll .kiosks) (h .created .own) in
-    hushed-on (h .told)
+    history-keeps Hushed-past hushed-after h
     (record {
       roomy = record { there = omega arith; sized = record { prevotes = refl; precommits = refl; proposals = refl; valids = refl } };
       mine = omega (arith, own, created-count roll (h .created) .1);
@@ -161,8 +157,4 @@ silent-places {roll} h =
 
 -- a kiosk that runs has no rule that applies
 pub no-rule : {roll : Roll} {cs : List Call} {p : Past} → History roll cs p → is-fresh (p .kiosk .state .phase) ≡ false → first-rule (desk (p .kiosk .state) (p .table)) ≡ Nothing
-unfolding at-rest
-no-rule {p = p} h old =
-    let d = desk (p .kiosk .state) (p .table) in
-    let rest : not (is-rule (first-rule d)) ≡ true = rw old at (fits d (steady h .possible) .rest) in
-    not-a-rule (first-rule d) (not-true (is-rule (first-rule d)) rest)
+no-rule {p = p} h old = let d = desk (p .kiosk .state) (p .table) in rests d (fits d (steady h .possible) .rest) old

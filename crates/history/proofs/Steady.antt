@@ -19,8 +19,9 @@ use Rattle.kiosk.specs.Judged.{used-fits, judged}
 use Rattle.kiosk.proofs.Accepted.{past}
 use Rattle.kiosk.proofs.Kept.{desk-kept}
 use Rattle.kiosk.proofs.Replays.{begun-fits}
-use Rattle.history.specs.Histories.{Call, Past, after, takes, Told, told-none, told-more, History}
+use Rattle.history.specs.Histories.{Call, Past, after, takes, History}
 use Rattle.history.specs.Remembering.{Steady}
+use Rattle.history.proofs.Telling.{history-keeps}
 
 -- an input that is taken finds a possible state, and leaves one
 pub possible-after : (p : Past) (i : Input) → takes p i ≡ true → desk-fits (desk (after p i .kiosk .state) (after p i .table)) ≡ true
@@ -42,13 +43,9 @@ steady-after p i t s =
       last-in = omega arith;
     }
 
-steady-on : {roll : Roll} {p q : Past} {cs : List Call} → Told p cs q → Steady roll p → Steady roll q
-steady-on told-none s = s
-steady-on (told-more {p} {q} {c} {cs} t w e later) s = steady-on later (steady-after p (c .input) t s)
-
 pub steady : {roll : Roll} {cs : List Call} {p : Past} → History roll cs p → Steady roll p
 steady {roll} h =
-    steady-on (h .told)
+    history-keeps (Steady roll) steady-after h
     (record { roll-is = refl; possible = begun-fits roll (h .created .fits) (h .created .own); after-header = omega arith; last-in = omega arith })
 
 -- refusal 1 is never given in a journal that has room for what it holds

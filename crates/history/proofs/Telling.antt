@@ -9,6 +9,7 @@ use native.Mathlib.Omega.{arith}
 use lib.ListN.{length, drop, length-append}
 use lib.Seq.{drop-at, getD-append-add}
 use Rattle.words.specs.Bytes.{in-order}
+use Rattle.roll.specs.declared.Roll.{Roll}
 use Rattle.rules.specs.declared.Input.{Input}
 use Rattle.rules.specs.declared.Output.{Output}
 use Rattle.rules.specs.Log.{empty-table}
@@ -17,10 +18,19 @@ use Rattle.journal.proofs.Roundtrip.{length-group}
 use Rattle.answers.specs.declared.Answer.the-variants.{Damaged}
 use Rattle.kiosk.specs.Opening.{Opened, Found, ended, unfinished, damaged, whole, opened, failed, find, replay}
 use Rattle.kiosk.proofs.Replays.{replay-stops, replay-damaged, replay-enough, replay-whole}
-use Rattle.history.specs.Histories.{Call, call-bytes, Past, does, after, takes, Wide, Told, told-none, told-more, Tail, none, Bad, Bytes}
+use Rattle.history.specs.Histories.{Call, call-bytes, Past, does, after, takes, Wide, Told, told-none, told-more, beginning, History, Tail, none, Bad, Bytes}
 use Rattle.history.proofs.Finding.{found-whole, tail-stops, Reads, find-reads, damage-bad}
 
 -- ## How long they are
+
+-- what holds as a journal begins, and is kept by each call that is accepted, holds of every history
+told-keeps : (P : Past → Type 0) → ((p : Past) (i : Input) → takes p i ≡ true → P p → P (after p i)) → {p q : Past} {cs : List Call} → Told p cs q → P p → P q
+told-keeps P keeps told-none h = h
+told-keeps P keeps (told-more {p} {q} {c} {cs} t w e later) h = told-keeps P keeps later (keeps p (c .input) t h)
+
+pub history-keeps : (P : Past → Type 0) → ((p : Past) (i : Input) → takes p i ≡ true → P p → P (after p i))
+    → {roll : Roll} {cs : List Call} {p : Past} → History roll cs p → P (beginning roll) → P p
+history-keeps P keeps h = told-keeps P keeps (h .told)
 
 pub told-used : {p q : Past} {cs : List Call} → Told p cs q → q .kiosk .used ≡ p .kiosk .used + length (in-order call-bytes cs)
 told-used told-none = omega arith

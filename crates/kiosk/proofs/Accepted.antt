@@ -7,16 +7,19 @@ use mathlib.Core.Bool.{Bool, true, false, _&&_, _||_, not, true≢false, false�
 use native.Mathlib.Omega.{arith}
 use lib.ListN.{length}
 use lib.Dec.{eqb, ltb, leb}
-use borrow.Author.Tests.{not-false, ltb-true, leb-true, eqb-true, eqb-false, eq-eqb}
+use borrow.Author.Tests.{not-true, not-false, ltb-true, leb-true, eqb-true, eqb-false, eq-eqb}
 use Rattle.words.specs.Choice.{if_then_else_, all-below, all-zero}
 use Rattle.words.proofs.Choice.{and-left, and-right}
 use Rattle.roll.specs.Weighing.{roll-fits, own-fits, proposer}
 use Rattle.roll.proofs.Weighing.{fits-count}
 use Rattle.rules.specs.declared.Input.{Input}
+use Rattle.rules.specs.declared.Rule.the-variants.{Nothing}
 use Rattle.rules.specs.State.{is-fresh, is-settled, settled-round, most-rounds, silent}
 use Rattle.rules.specs.Log.{Desk, desk, table-length, heard}
 use Rattle.rules.specs.Doing.{current, own}
+use Rattle.rules.specs.Rules.{first-rule, is-rule}
 use Rattle.rules.specs.Ready.{Ready, Readable}
+use Rattle.rules.proofs.ByRule.{not-a-rule}
 use Rattle.journal.specs.Layout.{header-length}
 use Rattle.kiosk.specs.declared.Kiosk.{Kiosk}
 use Rattle.answers.specs.declared.Answer.{Answer}
@@ -121,6 +124,13 @@ unstarted d rest fresh =
       locked = eqb-true (d .state .locked .next) 0 (and-right (a && b && c) l e3);
       valid = eqb-true (d .state .valid .next) 0 (and-right (a && b && c && l) v e4);
     }
+
+-- "started, not settled and some rule already applies" is not so of it: no rule applies, once started
+pub rests : (d : Desk) → at-rest d ≡ true → is-fresh (d .state .phase) ≡ false → first-rule d ≡ Nothing
+unfolding at-rest
+rests d rest old =
+    let f : not (is-rule (first-rule d)) ≡ true = rw old at rest in
+    not-a-rule (first-rule d) (not-true (is-rule (first-rule d)) f)
 
 -- ## What an accepted input has passed
 

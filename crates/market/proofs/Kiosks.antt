@@ -31,7 +31,7 @@ use Rattle.history.proofs.Finding.{part-tail}
 use Rattle.history.proofs.Openings.{created-length, opens-short, opens-history, history-used}
 use Rattle.history.proofs.Puts.{more, put-accepts, fits-creates, create-bytes, written-snoc}
 use Rattle.history.proofs.Replies.{code-put}
-use Rattle.history.proofs.Keeping.{spoken, sent-more}
+use Rattle.history.proofs.OneHistory.{spoken, sent-more}
 use Rattle.agreement.specs.Moves.{Out}
 use Rattle.agreement.specs.Weigh.{scale-of}
 use Rattle.agreement.specs.System.{Opening, Lawful}
