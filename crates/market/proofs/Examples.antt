@@ -16,9 +16,9 @@ use Rattle.journal.specs.Layout.{group-length}
 use Rattle.history.specs.Histories.{Creates, does}
 use Rattle.agreement.specs.Weigh.{Seats}
 use Rattle.agreement.specs.Moves.{Out, proposal, prevote, precommit, settled, other}
-use Rattle.agreement.specs.System.{off}
+use Rattle.agreement.specs.System.{off, next}
 use Rattle.market.specs.Demand3.{roll-at, World, Step, Reached, Put-out}
-use Rattle.market.proofs.Schedule.{zero-one, memory-after, kiosk-after, Setting, Keeper, Story, the-stories, first-part, creates, may-none, may-own, may-breaker, may-sent, begins, powered, called, interrupted, spoke, story-out, out-story, silent}
+use Rattle.market.proofs.Schedule.{zero-one, memory-after, cut-file, kiosk-after, Setting, Reached-with, Leads, here, further, Keeper, Story, the-stories, first-part, creates, may-none, may-own, may-breaker, may-sent, begins, powered, called, interrupted, recovers, spoke, story-out, out-story, silent}
 
 -- ## Inputs of height 2, all of round 0
 
@@ -64,7 +64,15 @@ two-few = omega arith
 
 -- with the honest steps, or more
 abbrev pub two-by : (S : World two 2 all → World two 2 all → Type 0) → ((w w′ : World two 2 all) → Step two 2 all w w′ → S w w′) → Setting
-two-by S honest = record { powers = two; height = 2; keeps = all; fits = two-fits; tall = tall; steps = S; honest = honest }
+two-by S honest = record { powers = two; height = 2; keeps = all; fits = two-fits; tall = tall; came = Reached-with two 2 all S; onward = λ w w′ r s. next r (honest w w′ s) }
+
+-- or from a world on
+abbrev two-from : World two 2 all → Setting
+two-from v = record { powers = two; height = 2; keeps = all; fits = two-fits; tall = tall; came = Leads two 2 all v; onward = λ w w′ l s. further l s }
+
+leads-on : {v w : World two 2 all} → Reached two 2 all v → Leads two 2 all v w → Reached two 2 all w
+leads-on r here = r
+leads-on r (further l s) = next (leads-on r l) s
 
 pub seat-0 : Keeper two all 0
 seat-0 = record { on-roll = omega arith; rule = refl }
@@ -81,7 +89,7 @@ unfolding the-stories
 zero-five = record { created = two-creates 0 (omega arith); fit = refl; taken = refl; sent = refl }
 
 -- seat 1 hears of 5 from seat 0
-abbrev one-hears : List Input
+abbrev pub one-hears : List Input
 one-hears = starts 0 ∷ proposes 0 5 ∷ prevotes 0 5 ∷ []
 
 one-settles : Story (roll-at two 2 1) (starts 0 ∷ proposes 0 5 ∷ prevotes 0 5 ∷ precommits 0 5 ∷ []) (other ∷ prevote 0 5 ∷ other ∷ precommit 0 5 ∷ other ∷ settled 0 5 ∷ [])
@@ -89,26 +97,33 @@ unfolding the-stories
 one-settles = record { created = two-creates 1 (omega arith); fit = refl; taken = refl; sent = refl }
 
 -- the group that settles has over 30 bytes
-over-30 : 30 < group-length (does (memory-after (roll-at two 2 1) one-hears) (precommits 0 5) .sent)
+pub over-30 : 30 < group-length (does (memory-after (roll-at two 2 1) one-hears) (precommits 0 5) .sent)
 unfolding the-stories
 over-30 = omega arith
 
 -- Seat 0 starts, settles, and sends its proposal and its votes. Seat 1 hears them; its power is cut after 30 bytes of the group that
--- settles; it opens its journal, hears the precommit again, and settles
-pub two-settle : (w : World two 2 all) × Reached two 2 all w × Put-out two 2 all w 0 (settled 0 5) × Put-out two 2 all w 1 (settled 0 5)
+-- settles, and this world is v; it opens its journal, hears the precommit again, and settles, and this world is w
+pub two-settle : (v w : World two 2 all) × Reached two 2 all v × (v .board 1 ≡ off (cut-file (roll-at two 2 1) one-hears (precommits 0 5) 30)) × Leads two 2 all v w × Reached two 2 all w
+    × Put-out two 2 all w 0 (settled 0 5) × Put-out two 2 all w 1 (settled 0 5)
 two-settle =
     let m = two-by (Step two 2 all) (λ w w′ s. s) in
-    let r0 = powered m seat-0 (begins m) refl in
+    let r0 = powered m seat-0 (begins two 2 all) refl in
     let r1 = called m seat-0 [] r0 refl (starts 5) [] zero-five (may-own refl may-none) in
     let r2 = spoke m seat-0 (starts 5 ∷ []) zero-five r1 refl (offered 5) (inl refl) in
     let r3 = spoke m seat-0 (starts 5 ∷ []) zero-five r2 refl (prevote 0 5) (inr (inl refl)) in
     let r4 = spoke m seat-0 (starts 5 ∷ []) zero-five r3 refl (precommit 0 5) (inr (inr (inr (inl refl)))) in
     let r5 = powered m seat-1 r4 refl in
     let r6 = called m seat-1 [] r5 refl (starts 0) (proposes 0 5 ∷ prevotes 0 5 ∷ []) (first-part one-hears (precommits 0 5 ∷ []) one-settles) (may-own refl (may-sent (inr (inr (inl refl))) (may-sent (inr (inl refl)) may-none))) in
-    let r7 = interrupted m seat-1 one-hears r6 refl (precommits 0 5) one-settles (may-sent (inl refl) may-none) 30 over-30 in
-    let r8 = called m seat-1 one-hears r7 refl (precommits 0 5) [] one-settles (may-sent (inl refl) may-none) in (
+    let r7 = interrupted m seat-1 one-hears (precommits 0 5) one-settles 30 r6 refl (may-sent (inl refl) may-none) in
+    let n : Setting = two-from _ in
+    let r8 = recovers n seat-1 one-hears (precommits 0 5) one-settles 30 over-30 here refl in
+    let r9 = called n seat-1 one-hears r8 refl (precommits 0 5) [] one-settles (may-sent (inl refl) may-none) in (
       _,
-      r8,
+      _,
+      r7,
+      refl,
+      r9,
+      leads-on r7 r9,
       story-out m _ seat-0 (starts 5 ∷ []) refl zero-five (inr (inr (inr (inr (inr (inl refl)))))),
       story-out m _ seat-1 (starts 0 ∷ proposes 0 5 ∷ prevotes 0 5 ∷ precommits 0 5 ∷ []) refl one-settles (inr (inr (inr (inr (inr (inl refl)))))),
     )
@@ -129,13 +144,13 @@ pub record Told-both (powers : List ℕ) (w : World powers 2 but-two) : Type 0 w
   pub no-more : (i : ℕ) → 1 < i → w .board i ≡ off []
 
 abbrev pub honest-at : (powers : List ℕ) → roll-fits (roll-at powers 2 0) ≡ true → Setting
-honest-at powers fits = record { powers = powers; height = 2; keeps = but-two; fits = fits; tall = tall; steps = Step powers 2 but-two; honest = λ w w′ s. s }
+honest-at powers fits = record { powers = powers; height = 2; keeps = but-two; fits = fits; tall = tall; came = Reached powers 2 but-two; onward = λ w w′ r s. next r s }
 
 pub tells : (powers : List ℕ) → roll-fits (roll-at powers 2 0) ≡ true → Keeper powers but-two 0 → Keeper powers but-two 1 → {os ps : List Out}
     → Story (roll-at powers 2 0) (story 5) os → Story (roll-at powers 2 1) (story 6) ps → (w : World powers 2 but-two) × Told-both powers w
 tells powers fits seat-0 seat-1 five six =
     let m = honest-at powers fits in
-    let r0 = powered m seat-0 (begins m) refl in
+    let r0 = powered m seat-0 (begins powers 2 but-two) refl in
     let r1 = called m seat-0 [] r0 refl (starts 0) (proposes 2 5 ∷ prevotes 2 5 ∷ precommits 2 5 ∷ []) five (may-own refl (may-breaker refl (may-breaker refl (may-breaker refl may-none)))) in
     let r2 = powered m seat-1 r1 refl in
     let r3 = called m seat-1 [] r2 refl (starts 0) (proposes 2 6 ∷ prevotes 2 6 ∷ precommits 2 6 ∷ []) six (may-own refl (may-breaker refl (may-breaker refl (may-breaker refl may-none)))) in

@@ -4,24 +4,21 @@ use mathlib.Core.Path.{_≡_, sym, ap, subst, _∙_}
 use mathlib.Core.Logic.{_⊎_, inl, inr, ⊎-elim}
 use mathlib.Core.List.{List}
 use mathlib.Core.Bool.{true, not}
-use lib.ListN.{length, take}
+use lib.ListN.{length}
 use Rattle.words.specs.Members.{In}
 use Rattle.roll.specs.Weighing.{power-of, total-of, roll-fits}
 use Rattle.rules.specs.State.{is-settled}
-use Rattle.rules.specs.Log.{table-length, empty-table}
-use Rattle.answers.specs.declared.Answer.the-variants.{Accepted, HeaderShort}
-use Rattle.kiosk.specs.declared.Reply.{Reply}
+use Rattle.rules.specs.Log.{empty-table}
+use Rattle.answers.specs.declared.Answer.the-variants.{HeaderShort}
 use Rattle.kiosk.specs.Opening.{Opened, failed, open-journal}
 use Rattle.kiosk.specs.Opening as opening
-use Rattle.kiosk.specs.Promises.{Opens}
-use Rattle.history.specs.Histories.{Call, Past, History, written, sent-in}
+use Rattle.history.specs.Histories.{Past, sent-in}
 use Rattle.agreement.specs.Weigh.{Seats}
-use Rattle.agreement.specs.Moves.{Out}
-use Rattle.agreement.specs.System.{off, on, by, Lawful, Shared, Sound}
+use Rattle.agreement.specs.System.{Lawful, Shared, Sound}
 use Rattle.agreement.proofs.System.{demand3-sheets, demand3-boards, on-so, off-so, out-put}
 use Rattle.market.specs.Seat.{acts}
 use Rattle.market.specs.Kiosks.{kiosk-of}
-use Rattle.market.specs.Demand3.{roll-at, scale, World, Reached, Put-out, One-sheet-sent, settled-sheet, Settled-sent, One-sheet-held, Opens-whole}
+use Rattle.market.specs.Demand3.{roll-at, scale, World, Reached, One-sheet-sent, settled-sheet, Settled-sent, One-sheet-held, Opens-whole}
 use Rattle.market.proofs.Settled.{settling, settled-so}
 use Rattle.market.proofs.Kiosks.{lawful, unmade-short, left-whole, left-records, creates}
 

@@ -21,7 +21,7 @@ use Rattle.agreement.specs.System as system
 use Rattle.market.specs.Seat.{acts}
 use Rattle.market.specs.Kiosks.{May-create, May-open, May-put, kiosk-of}
 use Rattle.market.specs.Demand3.{roll-at, scale, World, Step, Put-out, One-sheet-sent}
-use Rattle.market.proofs.Schedule.{file-after, memory-after, kiosk-after, Setting, Keeper, Story, the-stories, creates, may-create, none-there, untold, first-part, story-header, story-opens, story-puts, story-outputs, May-come, may-none, may-own, may-sent, with-board, with-word, sees-first, begins, powered, called, rests, wakes, spoke, story-out}
+use Rattle.market.proofs.Schedule.{file-after, memory-after, kiosk-after, Setting, Reached-with, Keeper, Story, the-stories, creates, may-create, none-there, untold, first-part, story-header, story-opens, story-puts, story-outputs, May-come, may-none, may-own, may-sent, with-board, with-word, sees-first, begins, powered, called, rests, wakes, spoke, story-out}
 use Rattle.market.proofs.Examples.{input, starts, proposes, precommits, offered, two, all, two-fits, tall, two-few, two-by, two-creates, seat-0, seat-1, zero-five, story, but-two, honest-at, tells}
 
 -- ## The statement with other steps
@@ -30,7 +30,7 @@ abbrev pub Steps : Type 1
 Steps = (powers : List ℕ) (height : ℕ) (keeps : Seats) → World powers height keeps → World powers height keeps → Type 0
 
 abbrev pub Reached-by : (S : Steps) (powers : List ℕ) (height : ℕ) (keeps : Seats) → World powers height keeps → Type 0
-Reached-by S powers height keeps w = system.Reach (scale powers height) keeps (kiosk-of powers height) (S powers height keeps) w
+Reached-by S powers height keeps w = Reached-with powers height keeps (S powers height keeps) w
 
 -- no two rule-keeping kiosks settle different sheets, by these steps, where B and T are so
 abbrev pub One-sheet-by : (ℕ → ℕ → Type 0) → Steps → Type 0
@@ -198,7 +198,7 @@ module _ (Extra : Steps) where
   -- seat 0 starts with 6, settles it and sends; seat 1 hears it, and settles it
   settled-six : (w : World two 2 all) × Came w × (w .board 0 ≡ kiosk-after (roll-at two 2 0) (starts 6 ∷ [])) × (w .board 1 ≡ kiosk-after (roll-at two 2 1) hears-six)
   settled-six =
-      let r0 = powered also seat-0 (begins also) refl in
+      let r0 = powered also seat-0 (begins two 2 all) refl in
       let r1 = called also seat-0 [] r0 refl (starts 6) [] zero-six (may-own refl may-none) in
       let r2 = spoke also seat-0 (starts 6 ∷ []) zero-six r1 refl (offered 6) (inl refl) in
       let r3 = spoke also seat-0 (starts 6 ∷ []) zero-six r2 refl (precommit 0 6) (inr (inr (inr (inl refl)))) in
@@ -279,7 +279,7 @@ says-early w e o a =
 pub early : Two-sheets Under-a-third (Also Early)
 early =
     let m = also Early in
-    let r0 = powered m seat-0 (begins m) refl in
+    let r0 = powered m seat-0 (begins two 2 all) refl in
     let r1 = next r0 (inr (says-early _ refl (offered 6) (inl refl))) in
     let r2 = next r1 (inr (says-early _ refl (precommit 0 6) (inr (inr (inr (inl refl)))))) in
     starts-five Early (hears Early r2 refl (inr (inl refl)) (inl refl)) refl refl
@@ -292,7 +292,7 @@ comes-forged w is x e s = put-forged 1 _ _ _ _ x (alone Forged (kiosk-after (rol
 pub forged : Two-sheets Under-a-third (Also Forged)
 forged =
     let m = also Forged in
-    let r0 = powered m seat-0 (begins m) refl in
+    let r0 = powered m seat-0 (begins two 2 all) refl in
     let r1 = powered m seat-1 r0 refl in
     let r2 = called m seat-1 [] r1 refl (starts 0) [] (first-part (starts 0 ∷ []) (proposes 0 6 ∷ precommits 0 6 ∷ []) one-six) (may-own refl may-none) in
     let r3 = next r2 (inr (comes-forged _ (starts 0 ∷ []) (proposes 0 6) refl (first-part (starts 0 ∷ proposes 0 6 ∷ []) (precommits 0 6 ∷ []) one-six))) in
@@ -321,7 +321,7 @@ pub own-roll : Two-sheets Under-a-third (Also Own-roll)
 own-roll =
     let m = also Own-roll in
     let b : Board Past = off (file-after (roll-at swapped 2 1) []) in
-    let r0 = powered m seat-0 (begins m) refl in
+    let r0 = powered m seat-0 (begins two 2 all) refl in
     let r1 = called m seat-0 [] r0 refl (starts 5) [] zero-five (may-own refl may-none) in
     let step = create-own 1 [] (file-after (roll-at swapped 2 1) []) swapped (alone Own-roll b seat-1) refl (none-there (two-creates 1 (omega arith))) (may-create swapped 2 swapped-fits tall 1 (omega arith)) refl in
     let r2 = wakes m seat-1 [] (untold swapped 2 swapped-fits tall 1 (omega arith)) (next r1 (inr step)) refl in

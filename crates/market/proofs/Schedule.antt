@@ -37,10 +37,10 @@ use Rattle.history.specs.Histories.{Call, call-bytes, Past, does, after, takes,
 use Rattle.history.proofs.Finding.{part-tail}
 use Rattle.history.proofs.Openings.{opens-short, opens-history, history-used, created-length}
 use Rattle.history.proofs.Puts.{more, longer-bytes, written-snoc, takes-put, create-bytes}
-use Rattle.history.proofs.Keeping.{spoken, taken-told}
+use Rattle.history.proofs.OneHistory.{spoken, taken-told}
 use Rattle.agreement.specs.Weigh.{Seats}
 use Rattle.agreement.specs.Moves.{Out}
-use Rattle.agreement.specs.System.{opened, no-header, Board, off, on, Msg, by, Change, create, wake, write, write-cut, cut, change, send, begin, next, awake, asleep}
+use Rattle.agreement.specs.System.{opened, no-header, Board, off, on, Msg, by, Change, create, wake, write, write-cut, cut, change, send, begin, awake, asleep}
 use Rattle.agreement.specs.System as system
 use Rattle.market.specs.Seat.{acts, message}
 use Rattle.market.specs.Kiosks.{May-create, May-open, May-put, opening-of, kiosk-of}
@@ -54,6 +54,10 @@ file-after roll is = written roll (calls-of (beginning roll) is)
 
 abbrev pub memory-after : Roll → List Input → Past
 memory-after roll is = leaves (beginning roll) is
+
+-- the file where power is cut after n bytes of one further group
+abbrev pub cut-file : Roll → List Input → Input → ℕ → List ℕ
+cut-file roll is x n = file-after roll is ++ take n (group-bytes x (does (memory-after roll is) x .sent))
 
 abbrev pub kiosk-after : Roll → List Input → Board Past
 kiosk-after roll is = on (memory-after roll is) (file-after roll is)
@@ -258,15 +262,32 @@ module _ (powers : List ℕ) (height : ℕ) (fits : roll-fits (roll-at powers he
 
 -- ## Steps
 
--- the setting of an example: its powers, who keeps the rules, and its steps, which hold the honest ones
+-- the setting of an example: its powers, who keeps the rules, and the worlds that were come to, from which honest steps lead on
 pub record Setting : Type 1 where
   pub powers : List ℕ
   pub height : ℕ
   pub keeps : Seats
   pub fits : roll-fits (roll-at powers height 0) ≡ true
   pub tall : height < 2 ^ 32
-  pub steps : World powers height keeps → World powers height keeps → Type 0
-  pub honest : (w w′ : World powers height keeps) → Step powers height keeps w w′ → steps w w′
+  pub came : World powers height keeps → Type 0
+  pub onward : (w w′ : World powers height keeps) → came w → Step powers height keeps w w′ → came w′
+
+module _ (powers : List ℕ) (height : ℕ) (keeps : Seats) where
+  -- kiosks without a journal and a silent radio
+  abbrev pub unbegun : World powers height keeps
+  unbegun = record { board = λ i. off []; air = [] }
+
+  -- what steps lead to from there
+  abbrev pub Reached-with : (World powers height keeps → World powers height keeps → Type 0) → World powers height keeps → Type 0
+  Reached-with S w = system.Reach (scale powers height) keeps (kiosk-of powers height) S w
+
+  pub begins : {S : World powers height keeps → World powers height keeps → Type 0} → Reached-with S unbegun
+  begins = begin (λ i. refl) refl
+
+  -- what honest steps lead to from any world
+  pub data Leads (v : World powers height keeps) : World powers height keeps → Type 0 where
+    here : Leads v v
+    further : {w w′ : World powers height keeps} → Leads v w → Step powers height keeps w w′ → Leads v w′
 
 -- a rule-keeping seat
 pub record Keeper (powers : List ℕ) (keeps : Seats) (i : ℕ) : Type 0 where
@@ -285,7 +306,7 @@ module _ (m : Setting) where
   W = World (m .powers) (m .height) (m .keeps)
 
   abbrev pub Came : W → Type 0
-  Came w = system.Reach (scale (m .powers) (m .height)) (m .keeps) (kiosk-of (m .powers) (m .height)) (m .steps) w
+  Came w = m .came w
 
   abbrev pub Sees : List Msg → ℕ → Input → Type 0
   Sees air i x = system.Sees (scale (m .powers) (m .height)) (m .keeps) (kiosk-of (m .powers) (m .height)) air i x
@@ -310,23 +331,15 @@ module _ (m : Setting) where
   abbrev pub with-word : W → ℕ → Out → W
   with-word w i o = record { board = w .board; air = by i o ∷ w .air }
 
-  -- kiosks without a journal and a silent radio
-  abbrev pub unbegun : W
-  unbegun = record { board = λ i. off []; air = [] }
-
-  pub begins : Came unbegun
-  begins = begin (λ i. refl) refl
-
   module _ (w : W) {i : ℕ} (k : Keeper (m .powers) (m .keeps) i) where
     -- a change of one kiosk, and another after it
     moved : {b b′ : Board Past} → Came w → w .board i ≡ b → Changes (w .air) i b b′ → Came (with-board w i b′)
     moved {b} {b′} r e c =
-        next {w = w} {w′ = with-board w i b′} r (m .honest _ _ (change i (k .on-roll) (k .rule) (rw (e, eq-eqb i i refl) c) (λ j n. rw (ne-eqb j i n)) refl))
+        m .onward w (with-board w i b′) r (change i (k .on-roll) (k .rule) (rw (e, eq-eqb i i refl) c) (λ j n. rw (ne-eqb j i n)) refl)
 
     again : {b b′ : Board Past} → Came (with-board w i b) → Changes (w .air) i b b′ → Came (with-board w i b′)
     again {b} {b′} r c =
-        next {w = with-board w i b} {w′ = with-board w i b′} r
-        (m .honest _ _ (change i (k .on-roll) (k .rule) (rw (eq-eqb i i refl) c) (λ j n. rw (ne-eqb j i n)) refl))
+        m .onward (with-board w i b) (with-board w i b′) r (change i (k .on-roll) (k .rule) (rw (eq-eqb i i refl) c) (λ j n. rw (ne-eqb j i n)) refl)
 
     -- opened, with what a power cut can leave after its history
     waked : {roll : Roll} {cs : List Call} {p : Past} → History roll cs p → (d tail : List ℕ) → Tail p tail → d ≡ written roll cs ++ tail
@@ -376,21 +389,28 @@ module _ (m : Setting) where
           let t : Story roll (part ++ xs) os = rw split s in
           rw split at (puts-all w k part xs t (come-later c) (moved w k r e (put-one w k is x (first-part part xs t) (sees-first c i))))
 
-      -- a call whose group power cuts after n bytes, and the journal opened again
-      pub interrupted : Came w → w .board i ≡ kiosk-after roll is → (x : Input) {os : List Out} → Story roll (is ++ (x ∷ [])) os
-          → May-come (m .keeps) (w .air) (x ∷ []) → (n : ℕ) → n < group-length (does (memory-after roll is) x .sent) → Came (with-board w i (kiosk-after roll is))
-      interrupted r e x s c n less =
-          let p = memory-after roll is in
-          let d : List ℕ = file-after roll is in
-          let all : List Input = is ++ (x ∷ []) in
-          let os = does p x .sent in
-          let g : List ℕ = group-bytes x os in
-          let part : take (length d + n) (file-after roll all) ≡ d ++ take n g
-          = ap (take (length d + n)) (file-more is x s ∙ written-snoc roll (calls-of (beginning roll) is) (record { input = x; sent = os })) ∙ take-append-add d g n in
-          let tail : Tail p (take n g) = part-tail p x n (last-taken is x s) (last-wide is x s) (omega (arith, length-group x os)) in
-          let dark = moved w k r e
-          (write-cut p (memory-after roll all) d (file-after roll all) x (length d + n) refl (sees-first c i) (story-puts is x s) (omega arith) (ap {B = Board Past} off (sym part))) in
-          again w k dark (waked w k (told (first-part is (x ∷ []) s)) (d ++ take n g) (take n g) tail refl)
+      -- a call whose group power cuts after n bytes
+      module _ (x : Input) {os : List Out} (s : Story roll (is ++ (x ∷ [])) os) (n : ℕ) where
+        pub interrupted : Came w → w .board i ≡ kiosk-after roll is → May-come (m .keeps) (w .air) (x ∷ []) → Came (with-board w i (off (cut-file roll is x n)))
+        interrupted r e c =
+            let p = memory-after roll is in
+            let d : List ℕ = file-after roll is in
+            let all : List Input = is ++ (x ∷ []) in
+            let sent = does p x .sent in
+            let g : List ℕ = group-bytes x sent in
+            let part : take (length d + n) (file-after roll all) ≡ d ++ take n g
+            = ap (take (length d + n)) (file-more is x s ∙ written-snoc roll (calls-of (beginning roll) is) (record { input = x; sent = sent })) ∙ take-append-add d g n in
+            moved w k r e
+            (write-cut p (memory-after roll all) d (file-after roll all) x (length d + n) refl (sees-first c i) (story-puts is x s) (omega arith) (ap {B = Board Past} off (sym part)))
+
+        -- and the journal opened again, where the cut is inside the group
+        pub recovers : n < group-length (does (memory-after roll is) x .sent) → Came w → w .board i ≡ off (cut-file roll is x n) → Came (with-board w i (kiosk-after roll is))
+        recovers less r e =
+            let p = memory-after roll is in
+            let sent = does p x .sent in
+            let g : List ℕ = group-bytes x sent in
+            let tail : Tail p (take n g) = part-tail p x n (last-taken is x s) (last-wide is x s) (omega (arith, length-group x sent)) in
+            moved w k r e (waked w k (told (first-part is (x ∷ []) s)) (cut-file roll is x n) (take n g) tail refl)
 
       module _ {os : List Out} (s : Story roll is os) where
         -- the journal opened again
@@ -400,8 +420,8 @@ module _ (m : Setting) where
         -- an output of a whole record is sent
         pub spoke : Came w → w .board i ≡ kiosk-after roll is → (o : Out) → In o os → Came (with-word w i o)
         spoke r e o a =
-            next {w = w} {w′ = with-word w i o} r
-            (m .honest _ _ (send i (memory-after roll is) (file-after roll is) o (k .on-roll) (k .rule) e (rw (story-outputs is s) a) (λ j. refl) refl))
+            m .onward w (with-word w i o) r
+            (send i (memory-after roll is) (file-after roll is) o (k .on-roll) (k .rule) e (rw (story-outputs is s) a) (λ j. refl) refl)
 
   -- ## What was put out
 
