@@ -1,7 +1,7 @@
 -- The kinds of input, case by case: a statement about what an input does before the rules is proved for start, for a message put
 -- in the log, and for each timer. Assumes nothing.
 use Prim.Native.Nat.{ℕ, suc, _*_, _≤_}
-use mathlib.Core.Path.{_≡_, refl}
+use mathlib.Core.Path.{_≡_}
 use mathlib.Core.Bool.{true, false}
 use native.Mathlib.Omega.{arith}
 use lib.Dec.{eqb}

@@ -1,5 +1,5 @@
 -- What a message leaves in the log and the table: its own place, and no other. Assumes nothing.
-use Prim.Native.Nat.{ℕ, _+_, _*_, _≤_, _<_}
+use Prim.Native.Nat.{ℕ, _<_}
 use mathlib.Core.Path.{_≡_, refl, sym, ap, _∙_}
 use mathlib.Core.Logic.{_⊎_, inl, inr, ⊎-elim}
 use mathlib.Core.List.{List}
@@ -9,7 +9,7 @@ use native.Mathlib.Decide.{ℕ-discrete}
 use lib.ListN.{length, getD, set, length-set}
 use lib.Seq.{getD-set-same, getD-set-other}
 use lib.Dec.{eqb}
-use borrow.Author.Tests.{eqb-true, eqb-false, eq-eqb}
+use borrow.Author.Tests.{eqb-true, eqb-false}
 use Rattle.words.specs.Choice.{if_then_else_}
 use Rattle.words.specs.Marks.{marked, mark}
 use Rattle.words.proofs.Choice.{or-case}
@@ -18,7 +18,7 @@ use Rattle.words.proofs.Places.{set-at, set-back}
 use Rattle.rules.specs.declared.Heard.{Heard}
 use Rattle.rules.specs.declared.Log.{Log}
 use Rattle.rules.specs.State.{spoken}
-use Rattle.rules.specs.Log.{Desk, per-round, proposal-place, prevote-place, precommit-place, told, tell, heard, proposed, prevoted, precommitted, hear-proposal, hear-prevote, hear-precommit}
+use Rattle.rules.specs.Log.{Desk, proposal-place, prevote-place, precommit-place, told, tell, heard, proposed, prevoted, precommitted, hear-proposal, hear-prevote, hear-precommit}
 
 -- ## A log that is told of a round
 
