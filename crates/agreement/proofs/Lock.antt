@@ -64,8 +64,24 @@ module _ (PV PC : ℕ → ℕ → Type 0) (a b : View) (os o : List Out) (k : Ke
         settled-backed = st;
       }
 
+  -- one name a round, where a vote of the current round is its first
+  one-name :
+      (vote : ℕ → ℕ → Out) (w₀ : ℕ) →
+      ((r w : ℕ) → In (vote r w) (os ++ o) → In (vote r w) os ⊎ ((r ≡ a .round) × (w ≡ w₀))) →
+      ((r w : ℕ) → In (vote r w) os → r ≡ a .round → ⊥) →
+      ((r v w : ℕ) → In (vote r v) os → In (vote r w) os → v ≡ w) →
+      (r v w : ℕ) →
+      In (vote r v) (os ++ o) →
+      In (vote r w) (os ++ o) →
+      v ≡ w
+  one-name vote w₀ split first old r v w h g =
+      ⊎-elim
+      (λ h′. ⊎-elim (λ g′. old r v w h′ g′) (λ e. absurd (first r v h′ (e .0))) (split r w g))
+      (λ e. ⊎-elim (λ g′. absurd (first r w g′ (e .0))) (λ e′. e .1 ∙ sym (e′ .1)) (split r w g))
+      (split r v h)
+
   module _ (w₀ : ℕ) (eo : o ≡ prevote (a .round) w₀ ∷ []) where
-    -- a prevote is an old one, or the new one
+    -- a prevote is an old one, or the one that is said now
     prevote-new-or-old : (r w : ℕ) → In (prevote r w) (os ++ o) → In (prevote r w) os ⊎ ((r ≡ a .round) × (w ≡ w₀))
     prevote-new-or-old r w h =
         ⊎-elim (λ g. inl g) (λ e. inr (prevote-round e, prevote-name e)) (In-last (prevote r w) (prevote (a .round) w₀) os o eo h)
@@ -94,19 +110,7 @@ module _ (PV PC : ℕ → ℕ → Type 0) (a b : View) (os o : List Out) (k : Ke
               ⊎-elim (λ g. omega (arith, k .prevote-past r w g)) (λ e. omega (arith, e .0)) (prevote-new-or-old r w h);
           precommit-past = λ r w h. omega (arith, k .precommit-past r w (precommit-old r w h));
           precommit-lock = λ r w hw h. omega (arith, s .lr, k .precommit-lock r w hw (precommit-old r w h));
-          one-prevote = λ r v w h g.
-              ⊎-elim
-              (λ h′.
-              ⊎-elim
-              (λ g′. k .one-prevote r v w h′ g′)
-              (λ e. absurd (omega (arith, e .0, k .prevote-past r v h′)))
-              (prevote-new-or-old r w g))
-              (λ e.
-              ⊎-elim
-              (λ g′. absurd (omega (arith, e .0, k .prevote-past r w g′)))
-              (λ e′. e .1 ∙ sym (e′ .1))
-              (prevote-new-or-old r w g))
-              (prevote-new-or-old r v h);
+          one-prevote = one-name prevote w₀ prevote-new-or-old (λ r w h e. omega (arith, k .prevote-past r w h)) (k .one-prevote);
           one-precommit = λ r v w h g. k .one-precommit r v w (precommit-old r v h) (precommit-old r w g);
           precommit-backed = λ r w hw h. k .precommit-backed r w hw (precommit-old r w h);
           lock-kept = λ r₀ r v w hv hw h₀ h g.
@@ -155,19 +159,7 @@ module _ (PV PC : ℕ → ℕ → Type 0) (a b : View) (os o : List Out) (k : Ke
               (λ e. omega (arith, e .0, (sheet (rw e.1 at hw)) .0))
               (precommit-new-or-old r w h);
           one-prevote = λ r v w h g. k .one-prevote r v w (prevote-before r v h) (prevote-before r w g);
-          one-precommit = λ r v w h g.
-              ⊎-elim
-              (λ h′.
-              ⊎-elim
-              (λ g′. k .one-precommit r v w h′ g′)
-              (λ e. absurd (omega (arith, e .0, k .precommit-past r v h′)))
-              (precommit-new-or-old r w g))
-              (λ e.
-              ⊎-elim
-              (λ g′. absurd (omega (arith, e .0, k .precommit-past r w g′)))
-              (λ e′. e .1 ∙ sym (e′ .1))
-              (precommit-new-or-old r w g))
-              (precommit-new-or-old r v h);
+          one-precommit = one-name precommit w₀ precommit-new-or-old (λ r w h e. omega (arith, k .precommit-past r w h)) (k .one-precommit);
           precommit-backed = λ r w hw h.
               ⊎-elim
               (λ g. k .precommit-backed r w hw g)

@@ -10,7 +10,7 @@ use Rattle.agreement.specs.Weigh.{Scale, Seats, Backed}
 use Rattle.agreement.specs.Agree.{Said, Keeping, Closed}
 use Rattle.agreement.specs.Moves.{Out, settled, Kept}
 use Rattle.agreement.specs.Honest.{Kind, pv, pc, said, Arrived, Heard}
-use Rattle.agreement.specs.Market.{Unforged, Member, Listener, Market, One-sheet}
+use Rattle.agreement.specs.Market.{Unforged, Member, Market, One-sheet}
 use Rattle.agreement.proofs.Agreement.{agreement}
 
 module _ (ps : Scale) (keeps : Seats) (outs : ℕ → List Out) where
@@ -25,11 +25,6 @@ module _ (ps : Scale) (keeps : Seats) (outs : ℕ → List Out) where
         large = h .large;
         honest = λ j hj kj t. ⊎-elim (λ o. rw o.0 (o .1)) (λ a. net j hj kj (said k r w) a) (h .from j hj t);
       }
-
-  pub listener-closed : (i r v : ℕ) → Listener ps keeps outs i → In (settled r v) (outs i) → Closed ps keeps (spoke pc) v
-  listener-closed i r v me h =
-      let b = me .closes r v h in
-      record { round = r; sheet = b .0; backed = backed i (me .arrived) (me .net) pc r v (b .1) }
 
   module _ (m : Market ps keeps outs) where
     module _ (i : ℕ) (hi : i < ps .kiosks) (ki : keeps i ≡ true) where

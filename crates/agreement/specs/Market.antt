@@ -23,12 +23,6 @@ pub record Market (ps : Scale) (keeps : Seats) (outs : ℕ → List Out) : Type 
   pub few : Few ps keeps
   pub member : (i : ℕ) → i < ps .kiosks → keeps i ≡ true → Member ps keeps outs i
 
--- a kiosk that only listens: it may stand among the rule-breakers for power; it still settles by rule 49
-pub record Listener (ps : Scale) (keeps : Seats) (outs : ℕ → List Out) (i : ℕ) : Type 1 where
-  pub arrived : Arrived
-  pub closes : (r v : ℕ) → In (settled r v) (outs i) → (v ≢ 0) × Heard ps i arrived (outs i) pc r v
-  pub net : Unforged ps keeps outs arrived
-
 -- no two rule-keeping kiosks settle different sheets
 abbrev pub One-sheet : Scale → Seats → (ℕ → List Out) → Type 0
 One-sheet ps keeps outs =
