@@ -2,7 +2,6 @@
 use Prim.Native.Nat.{ℕ, zero, suc}
 use mathlib.Core.List.{List, [], _∷_, _++_}
 use mathlib.Core.Bool.{_&&_, not}
-use mathlib.Core.Logic.{inl, inr}
 use lib.Dec.{eqb}
 use lib.ListN.{getD, set}
 use Rattle.words.specs.Members.{In}
@@ -11,14 +10,14 @@ use Rattle.roll.specs.Weighing.{proposer}
 use Rattle.rules.specs.declared.Input.{Input}
 use Rattle.rules.specs.declared.Output.{Output}
 use Rattle.rules.specs.declared.Phase.the-variants.{Running}
-use Rattle.rules.specs.State.{good, entered, held, with-phase, with-stand, with-locked}
-use Rattle.rules.specs.Log.{Desk, with-state, heard, proposed, good-sheets, hear-proposal, hear-prevote, hear-precommit}
+use Rattle.rules.specs.State.{entered, held, with-phase, with-stand, with-locked}
+use Rattle.rules.specs.Log.{Desk, with-state, good-sheets, hear-proposal, hear-prevote, hear-precommit}
 use Rattle.rules.specs.Doing.{current, own, propose, prevote, precommit, ask-propose, ask-prevote, ask-precommit, sheet-to-propose, start-round}
 use Rattle.rules.specs.Rules.{fire-49}
 use Rattle.rules.specs.Work.{worked}
 use Rattle.rules.proofs.ByRule.{Runs}
 use Rattle.rules.proofs.Deeds as deeds
-use Rattle.rules.proofs.Deeds.{Prevotes, nil, afresh, again, Deed, holding}
+use Rattle.rules.proofs.Deeds.{sole, Prevotes, nil, afresh, again, Deed, holding}
 use Rattle.kiosk.proofs.Accepted.{Passes}
 use Rattle.kiosk.proofs.Taken.{Taken, starts, hears-proposal, hears-prevote, hears-precommit, timer, call-keeps}
 
@@ -97,12 +96,7 @@ module _ (N : ℕ → Type 0) (zero-named : N 0) where
     voted name (again vr g e v b p l) = rw e (s .names _)
 
     sheet-named : (r name : ℕ) → In name (good-sheets d r) → N name
-    unfolding good-sheets
-    sheet-named r name = by-test (λ (l : List ℕ). In name l → N name) (good (heard d r)) (λ g. one) (λ g h. absurd h)
-      where
-        one : In name (proposed d r ∷ []) → N name
-        one (inl e) = rw e (s .names _)
-        one (inr h) = absurd h
+    sheet-named r name h = rw (sole d r name h) (s .names _)
 
   -- each deed
   deed-names : (offer : ℕ) → N offer → (d u : Desk) → Runs d → Deed offer d u → Holds N d → Holds N u

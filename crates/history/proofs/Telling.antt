@@ -19,7 +19,7 @@ use Rattle.answers.specs.declared.Answer.the-variants.{Damaged}
 use Rattle.kiosk.specs.Opening.{Opened, Found, ended, unfinished, damaged, whole, opened, failed, find, replay}
 use Rattle.kiosk.proofs.Replays.{replay-stops, replay-damaged, replay-enough, replay-whole}
 use Rattle.history.specs.Histories.{Call, call-bytes, Past, does, after, takes, Wide, Told, told-none, told-more, beginning, History, Tail, none, Bad, Bytes}
-use Rattle.history.proofs.Finding.{found-whole, tail-stops, Reads, find-reads, damage-bad}
+use Rattle.history.proofs.Finding.{found-whole, tail-stops, empty-is, Reads, find-reads, damage-bad}
 
 -- ## How long they are
 
@@ -127,10 +127,6 @@ by-found left area p b (whole d) e (i, rest, t, w, same, is) low room long later
     ∙ replay-call (suc left) area p i rest t w (omega arith) (omega (arith, length-append (group-bytes i os) rest)) in
     one-more p i b rest t w is (step ∙ replay-enough (length rest) left area rest (after p i .kiosk) (after p i .table) (omega arith) (omega arith))
     (later (after p i) rest (bytes-after (group-bytes i os) rest (rw is at low)) (omega arith) (omega arith))
-
-empty-is : (b : List ℕ) → length b ≤ 0 → b ≡ []
-empty-is [] e = refl
-empty-is (x ∷ b) e = absurd (omega arith)
 
 pub replay-splits : (left area : ℕ) (p : Past) (b : List ℕ) → Bytes b → p .kiosk .used + length b ≤ area → length b ≤ left
     → Splits p b (replay left area b (p .kiosk) (p .table))

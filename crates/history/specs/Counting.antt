@@ -50,8 +50,3 @@ bytes-left d = phase-left (d .state .phase) (d .rounds) (d .state .stand) + 26 *
 -- messages from others and 138 of timers (or start) and outputs
 abbrev pub room-for : ℕ → ℕ → ℕ
 room-for n rounds = 19 + 2 * n + 112 * rounds + 52 * (n * rounds)
-
--- To compute with this file: `unfolding the-counting` opens the above.
-unfoldable pub the-counting : Unit {0}
-unfolding sum-below unmarked messages-left all-messages-left stand-left phase-left bytes-left
-the-counting = tt

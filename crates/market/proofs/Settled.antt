@@ -15,13 +15,13 @@ use Rattle.rules.specs.declared.Input.{Input}
 use Rattle.rules.specs.declared.Output.{Output}
 use Rattle.rules.specs.declared.Phase.{Phase}
 use Rattle.rules.specs.declared.Phase.the-variants.{Fresh, Running, Settled}
-use Rattle.rules.specs.State.{is-running, is-settled, settled-round, good, with-phase}
-use Rattle.rules.specs.Log.{Desk, with-state, heard, proposed, good-sheets, the-log}
+use Rattle.rules.specs.State.{is-running, is-settled, settled-round, with-phase}
+use Rattle.rules.specs.Log.{Desk, with-state, proposed, the-log}
 use Rattle.rules.specs.Doing.{own, output, sheet-to-propose, start-round, the-doing}
 use Rattle.rules.specs.Rules.{fire-49}
 use Rattle.rules.specs.Work.{worked}
 use Rattle.rules.proofs.ByRule.{Runs}
-use Rattle.rules.proofs.Deeds.{Closes, Deed, prevotes, precommits-nil, locks, holds, asks-prevote, asks-precommit, settles, enters}
+use Rattle.rules.proofs.Deeds.{sole, Closes, Deed, prevotes, precommits-nil, locks, holds, asks-prevote, asks-precommit, settles, enters}
 use Rattle.kiosk.proofs.Accepted.{Passes, accepted-passes}
 use Rattle.kiosk.proofs.Taken.{Taken, starts, hears-proposal, hears-prevote, hears-precommit, timer, call-keeps}
 use Rattle.history.specs.Histories.{Call, Past, does, after, takes, History, sent-in}
@@ -50,16 +50,11 @@ unfolding the-doing the-log
 start-phase offer r d =
     by-test (λ (u : Desk). u .state .phase ≡ d .state .phase) (eqb (proposer (d .state .roll) r) (own d) && not (eqb (sheet-to-propose offer d) 0)) (λ e. refl) (λ e. refl)
 
--- a settled sheet is its round's
-the-sheet : (d : Desk) (r name : ℕ) → In name (good-sheets d r) → name ≡ proposed d r
-unfolding good-sheets
-the-sheet d r name = by-test (λ (l : List ℕ). In name l → name ≡ proposed d r) (good (heard d r)) (λ e. ⊎-elim (λ same. same) (λ h. absurd h)) (λ e h. absurd h)
-
 closes : (r name : ℕ) (d : Desk) → Closes d r name → In (closing (fire-49 r name d)) (fire-49 r name d .sent)
 unfolding fire-49
 closes r name d c =
     let o = output 7 r 0 name in
-    subst (λ (w : ℕ). In (output 7 r 0 w) (d .sent ++ (o ∷ []))) (the-sheet d r name (c .sheet)) (In-right o (d .sent) (o ∷ []) (inl refl))
+    subst (λ (w : ℕ). In (output 7 r 0 w) (d .sent ++ (o ∷ []))) (sole d r name (c .sheet)) (In-right o (d .sent) (o ∷ []) (inl refl))
 
 same-phase : (d u : Desk) → Runs d → u .state .phase ≡ d .state .phase → Ends u
 same-phase d u run e = inl (rw e (runs-on (d .state .phase) run))

@@ -3,6 +3,7 @@
 use Prim.Native.Nat.{ℕ, zero, suc, pred, _≤_, _<_}
 use mathlib.Core.Path.{_≡_, refl}
 use mathlib.Core.Logic.{_⊎_, inl, inr, ⊎-elim}
+use mathlib.Core.List.{List}
 use mathlib.Core.Bool.{Bool, true, false, _&&_, _||_, not, false≢true}
 use native.Mathlib.Omega.{arith}
 use lib.Dec.{eqb, leb, ltb}
@@ -47,6 +48,11 @@ pub record Backs (d : Desk) (name : ℕ) : Type 0 where
   pub sheet : In name (good-sheets d (current d))
   pub large : is-large d (prevote-power-for d (current d) name) ≡ true
   pub first : d .state .stand .backed ≡ false
+
+-- a sheet that 36 or 49 names is its round's proposal
+pub sole : (d : Desk) (r name : ℕ) → In name (good-sheets d r) → name ≡ proposed d r
+unfolding good-sheets
+sole d r name = by-test (λ (l : List ℕ). In name l → name ≡ proposed d r) (good (heard d r)) (λ e. ⊎-elim (λ same. same) (λ h. absurd h)) (λ e h. absurd h)
 
 -- line 49: a sheet that large precommits of its round close
 pub record Closes (d : Desk) (r name : ℕ) : Type 0 where
