@@ -6,11 +6,9 @@ use mathlib.Core.Logic.{_≢_, _⊎_, inl, inr, ⊎-elim}
 use mathlib.Core.List.{List, [], _∷_, _++_}
 use native.Mathlib.Omega.{arith}
 use Rattle.words.specs.Members.{In}
+use Rattle.words.proofs.Choice.{zero-one}
 use Rattle.words.proofs.Members.{In-split, In-last}
 use Rattle.agreement.specs.Moves.{Out, prevote, precommit, settled, View, SameLock, Quiet, Move, quiet, enter, prevote-nil, prevote-new, prevote-old, precommit-nil, precommit-sheet, settle, Kept}
-
-zero-one : _≡_ {A = ℕ} 0 1 → ⊥
-zero-one e = omega arith
 
 prevote-round : {r w r′ w′ : ℕ} → prevote r w ≡ prevote r′ w′ → r ≡ r′
 prevote-round e = cc

@@ -2,13 +2,12 @@
 -- Assumes nothing.
 use Prim.Native.Nat.{ℕ, _<_}
 use mathlib.Core.Path.{_≡_}
-use mathlib.Core.Logic.{_≢_}
 use mathlib.Core.Bool.{true}
 use mathlib.Core.List.{List}
 use Rattle.agreement.specs.Weigh.{Scale, Seats, Few}
 use Rattle.words.specs.Members.{In}
 use Rattle.agreement.specs.Moves.{Out, settled}
-use Rattle.agreement.specs.Honest.{pc, Arrived, Heard, Honest}
+use Rattle.agreement.specs.Honest.{Arrived, Honest}
 
 -- no sender is forged: what arrived under a rule-keeping number this kiosk put out. One sheet a height needs it of votes alone
 abbrev pub Unforged : Scale → Seats → (ℕ → List Out) → Arrived → Type 0

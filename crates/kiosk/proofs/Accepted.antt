@@ -170,6 +170,11 @@ passes d i e =
       next-round = m .0;
     }
 
+-- and what has passed them all is accepted
+pub welcome : (d : Desk) (i : Input) → Passes d i → is-accepted (refused-input d i) ≡ true
+unfolding refused-input refused-message
+welcome d i p = rw (p .unsettled, p .in-order, p .height, p .fields, p .not-own, p .turn, p .unheard, p .due, p .next-round)
+
 pub record Fields (n rounds : ℕ) (i : Input) : Type 0 where
   pub kind-low : 1 ≤ i .kind
   pub kind-high : i .kind ≤ 7

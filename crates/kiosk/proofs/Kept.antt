@@ -47,7 +47,7 @@ pub record Heard-fits (n r : ℕ) (h : Heard) (name : ℕ) : Type 0 where
   pub verdict : h .proposal ≤ 2
   pub sheet : spoken h ≡ true → (name ≡ 0 → ⊥) × (h .valid ≤ r)
 
-round-told : (d : Desk) (r : ℕ) → round-fits d r ≡ true → Heard-fits (d .state .roll .kiosks) r (heard d r) (proposed d r)
+pub round-told : (d : Desk) (r : ℕ) → round-fits d r ≡ true → Heard-fits (d .state .roll .kiosks) r (heard d r) (proposed d r)
 unfolding round-fits
 round-told d r e =
     let h = heard d r in

@@ -10,6 +10,7 @@ use borrow.Author.Tests.{ne-eqb}
 use lib.Dec.{eqb}
 use Rattle.words.specs.Choice.{the-choices}
 use Rattle.words.specs.Members.{In}
+use Rattle.words.proofs.Choice.{zero-one}
 use Rattle.roll.specs.Weighing.{power-of, total-of, roll-fits, the-weighing}
 use Rattle.rules.specs.declared.Input.{Input}
 use Rattle.journal.specs.Layout.{group-length}
@@ -17,8 +18,8 @@ use Rattle.history.specs.Histories.{Creates, does}
 use Rattle.agreement.specs.Weigh.{Seats}
 use Rattle.agreement.specs.Moves.{Out, proposal, prevote, precommit, settled, other}
 use Rattle.agreement.specs.System.{off, next}
-use Rattle.market.specs.Demand3.{roll-at, World, Step, Reached, Put-out}
-use Rattle.market.proofs.Schedule.{zero-one, memory-after, cut-file, kiosk-after, Setting, Reached-with, Leads, here, further, Keeper, Story, the-stories, first-part, creates, may-none, may-own, may-breaker, may-sent, begins, powered, called, interrupted, recovers, spoke, story-out, out-story, silent}
+use Rattle.market.specs.Demand3.{roll-at, World, Step, Reached, Leads, here, further, Put-out}
+use Rattle.market.proofs.Schedule.{memory-after, cut-file, kiosk-after, Setting, Reached-with, Keeper, Story, the-stories, first-part, creates, may-none, may-own, may-breaker, may-sent, begins, leads-on, powered, called, interrupted, recovers, spoke, story-out, out-story, silent}
 
 -- ## Inputs of height 2, all of round 0
 
@@ -70,10 +71,6 @@ two-by S honest = record { powers = two; height = 2; keeps = all; fits = two-fit
 abbrev two-from : World two 2 all → Setting
 two-from v = record { powers = two; height = 2; keeps = all; fits = two-fits; tall = tall; came = Leads two 2 all v; onward = λ w w′ l s. further l s }
 
-leads-on : {v w : World two 2 all} → Reached two 2 all v → Leads two 2 all v w → Reached two 2 all w
-leads-on r here = r
-leads-on r (further l s) = next (leads-on r l) s
-
 pub seat-0 : Keeper two all 0
 seat-0 = record { on-roll = omega arith; rule = refl }
 
@@ -123,7 +120,7 @@ two-settle =
       r7,
       refl,
       r9,
-      leads-on r7 r9,
+      leads-on two 2 all r7 r9,
       story-out m _ seat-0 (starts 5 ∷ []) refl zero-five (inr (inr (inr (inr (inr (inl refl)))))),
       story-out m _ seat-1 (starts 0 ∷ proposes 0 5 ∷ prevotes 0 5 ∷ precommits 0 5 ∷ []) refl one-settles (inr (inr (inr (inr (inr (inl refl)))))),
     )

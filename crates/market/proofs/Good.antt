@@ -6,25 +6,24 @@ use mathlib.Core.Logic.{inl, inr, ⊎-elim}
 use mathlib.Core.List.{List, [], _∷_, _++_, append-assoc}
 use mathlib.Core.Bool.{Bool, true, _&&_}
 use native.Mathlib.Omega.{arith}
-use lib.ListN.{length, length-set}
+use lib.ListN.{length}
 use lib.Dec.{eqb}
 use borrow.Author.Tests.{eqb-true}
 use Rattle.words.specs.Marks.{marked}
 use Rattle.words.proofs.Choice.{and-left, and-right}
 use Rattle.words.proofs.Members.{In-left, In-right}
 use Rattle.roll.specs.declared.Roll.{Roll}
-use Rattle.roll.specs.Weighing.{large, power-of, total-of}
 use Rattle.rules.specs.declared.Output.{Output}
 use Rattle.rules.specs.State.{most-rounds}
-use Rattle.rules.specs.Log.{Desk, table-length, proposal-place, prevote-place, precommit-place, heard, prevoted, precommitted, hear-proposal, hear-prevote, hear-precommit, prevote-power-for, precommit-power-for}
+use Rattle.rules.specs.Log.{Desk, table-length, hear-proposal}
 use Rattle.rules.specs.Doing.{current}
 use Rattle.rules.specs.Rules.{is-large}
-use Rattle.rules.proofs.Hearing.{prevote-heard, precommit-heard, prevote-apart, precommit-apart, proposal-prevotes, proposal-precommits}
 use Rattle.agreement.specs.Weigh.{scale-of}
 use Rattle.agreement.specs.Moves.{Out, View, Move, Kept}
 use Rattle.agreement.specs.Honest.{Kind, pv, pc, said, Arrived, From, Heard}
 use Rattle.agreement.proofs.Lock.{kept}
 use Rattle.market.specs.Seat.{act, acts, view}
+use Rattle.market.proofs.Votes.{marks, name-of, hear, power-for, large-for, log-same, Beside, beside-vote, beside-proposal, proposal-votes, vote-heard}
 
 -- ## Outputs
 
@@ -58,40 +57,6 @@ weaker f g k = record {
       (m .0, m .1, m .2, f _ _ (m .3));
   settled-backed = λ r w h. (k .settled-backed r w h .0, g r w (k .settled-backed r w h .1));
 }
-
--- ## The votes of a log, by type
-
-abbrev pub marks : Kind → Desk → ℕ → ℕ
-marks pv d r = heard d r .prevotes
-marks pc d r = heard d r .precommits
-
-abbrev pub name-of : Kind → Desk → ℕ → ℕ → ℕ
-name-of pv d r j = prevoted d r j
-name-of pc d r j = precommitted d r j
-
-abbrev pub hear : Kind → Desk → ℕ → ℕ → ℕ → Desk
-hear pv d r i name = hear-prevote d r i name
-hear pc d r i name = hear-precommit d r i name
-
-abbrev pub power-for : Kind → Desk → ℕ → ℕ → ℕ
-power-for pv d r name = prevote-power-for d r name
-power-for pc d r name = precommit-power-for d r name
-
--- what a message leaves as it is
-record Beside (d u : Desk) : Type 0 where
-  roll-same : u .state .roll ≡ d .state .roll
-  rounds-same : u .rounds ≡ d .rounds
-  round-same : current u ≡ current d
-  length-same : length (u .table) ≡ length (d .table)
-
-beside-vote : (k : Kind) (d : Desk) (r i name : ℕ) → Beside d (hear k d r i name)
-unfolding hear-prevote hear-precommit
-beside-vote pv d r i name = record { roll-same = refl; rounds-same = refl; round-same = refl; length-same = length-set (d .table) (prevote-place r i) name }
-beside-vote pc d r i name = record { roll-same = refl; rounds-same = refl; round-same = refl; length-same = length-set (d .table) (precommit-place r i) name }
-
-beside-proposal : (d : Desk) (r : ℕ) (good : Bool) (valid name : ℕ) → Beside d (hear-proposal d r good valid name)
-unfolding hear-proposal
-beside-proposal d r good valid name = record { roll-same = refl; rounds-same = refl; round-same = refl; length-same = length-set (d .table) (proposal-place r) name }
 
 -- ## The invariant
 
@@ -138,12 +103,8 @@ module _ (roll : Roll) (A : Arrived) where
     rounds-are = er ∙ l .rounds-are;
     round = hc;
     places = rw et (l .places);
-    votes = votes-same;
+    votes = λ k r j hj. let e = log-same d u el et k r j in rw (e .0, e .1) (l .votes k r j hj);
   }
-    where
-      votes-same : (k : Kind) (r j : ℕ) → j < roll .kiosks → marked (marks k u r) j ≡ true → Said os k r (name-of k u r j) j
-      votes-same pv r j hj = rw (el, et) (l .votes pv r j hj)
-      votes-same pc r j hj = rw (el, et) (l .votes pc r j hj)
 
   -- a move, and a log that grew by what was said or arrived
   pub advance : (os o : List Out) (d u : Desk) → Good os d → Logs (os ++ o) u → Move (Hears (os ++ o) pv) (Hears (os ++ o) pc) (view d) o (view u) → Good (os ++ o) u
@@ -159,64 +120,35 @@ module _ (roll : Roll) (A : Arrived) where
   module _ (few : roll .kiosks ≤ 32) (os : List Out) (d : Desk) (l : Logs os d) where
     -- ## Messages heard
 
-    module _ (u : Desk) (b : Beside d u) where
-      heard-logs : ((k : Kind) (r j : ℕ) → j < roll .kiosks → marked (marks k u r) j ≡ true → Said os k r (name-of k u r j) j) → Logs os u
-      heard-logs votes = record {
-        roll-is = b .roll-same ∙ l .roll-is;
-        rounds-are = b .rounds-same ∙ l .rounds-are;
-        round = rw (b .round-same) (l .round);
-        places = b .length-same ∙ l .places;
-        votes = votes;
-      }
-
-      -- a vote that the message did not touch
-      untouched : (k : Kind) (q j : ℕ) → j < roll .kiosks → (marks k u q ≡ marks k d q) × (name-of k u q j ≡ name-of k d q j)
-          → marked (marks k u q) j ≡ true → Said os k q (name-of k u q j) j
-      untouched k q j hj e t = rw (e .1) (l .votes k q j hj (rw (e .0) at t))
+    heard-logs : (u : Desk) → Beside d u → ((k : Kind) (r j : ℕ) → j < roll .kiosks → marked (marks k u r) j ≡ true → Said os k r (name-of k u r j) j) → Logs os u
+    heard-logs u b votes = record {
+      roll-is = b .roll-same ∙ l .roll-is;
+      rounds-are = b .rounds-same ∙ l .rounds-are;
+      round = rw (b .stand-same) (l .round);
+      places = b .length-same ∙ l .places;
+      votes = votes;
+    }
 
     pub vote-logs : (k : Kind) (r i name : ℕ) → r < most-rounds → i < 32 → Said os k r name i → Logs os (hear k d r i name)
-    vote-logs k r i name hr hi new = heard-logs (hear k d r i name) (beside-vote k d r i name) (go k new)
-      where
-        low : (j : ℕ) → j < roll .kiosks → j < 32
-        low j hj = omega (arith, few)
-
-        go : (k : Kind) → Said os k r name i → (k′ : Kind) (q j : ℕ) → j < roll .kiosks → marked (marks k′ (hear k d r i name) q) j ≡ true
-            → Said os k′ q (name-of k′ (hear k d r i name) q j) j
-        go pv new pv q j hj t =
-            ⊎-elim (λ h. rw (h .2, h .0, h .1) new) (λ h. rw (h .1) (l .votes pv q j hj (h .0)))
-            (prevote-heard d r i name hi q j (low j hj) (rw (l .places) (omega arith)) t)
-        go pc new pc q j hj t =
-            ⊎-elim (λ h. rw (h .2, h .0, h .1) new) (λ h. rw (h .1) (l .votes pc q j hj (h .0)))
-            (precommit-heard d r i name hi q j (low j hj) (rw (l .places) (omega arith)) t)
-        go pv new pc q j hj t = untouched (hear-prevote d r i name) (beside-vote pv d r i name) pc q j hj (prevote-apart d r i name hi q j (low j hj)) t
-        go pc new pv q j hj t = untouched (hear-precommit d r i name) (beside-vote pc d r i name) pv q j hj (precommit-apart d r i name hi q j (low j hj)) t
+    vote-logs k r i name hr hi new = heard-logs (hear k d r i name) (beside-vote k d r i name) (λ k′ q j hj t.
+        ⊎-elim
+        (λ h. rw (h .3, h .1, h .2, ← (h .0)) new)
+        (λ h. rw (h .1) (l .votes k′ q j hj (h .0)))
+        (vote-heard k d r i name hi hr (l .places) k′ q j (omega (arith, few)) t))
 
     pub proposal-logs : (r : ℕ) (good : Bool) (valid name : ℕ) → Logs os (hear-proposal d r good valid name)
-    proposal-logs r good valid name = heard-logs u b go
-      where
-        u : Desk
-        u = hear-proposal d r good valid name
-
-        b : Beside d u
-        b = beside-proposal d r good valid name
-
-        go : (k : Kind) (q j : ℕ) → j < roll .kiosks → marked (marks k u q) j ≡ true → Said os k q (name-of k u q j) j
-        go pv q j hj = untouched u b pv q j hj (proposal-prevotes d r good valid name q j (omega (arith, few)))
-        go pc q j hj = untouched u b pc q j hj (proposal-precommits d r good valid name q j (omega (arith, few)))
+    proposal-logs r good valid name = heard-logs (hear-proposal d r good valid name) (beside-proposal d r good valid name) (λ k q j hj t.
+        let e = proposal-votes d r good valid name k q j (omega (arith, few)) in
+        rw (e .1) (l .votes k q j hj (rw (e .0) at t)))
 
     -- ## A large set in the log is heard
 
-    seats-heard : (k : Kind) (r w : ℕ) → large (total-of roll) (power-of roll (λ j. marked (marks k d r) j && eqb (name-of k d r j) w)) ≡ true → Hears os k r w
-    seats-heard k r w t = record {
+    pub votes-heard : (k : Kind) (r w : ℕ) → is-large d (power-for k d r w) ≡ true → Hears os k r w
+    votes-heard k r w t = record {
       seats = λ j. marked (marks k d r) j && eqb (name-of k d r j) w;
-      large = t;
+      large = sym (large-for k d r w (l .roll-is)) ∙ t;
       from = λ j hj s.
           let m = marked (marks k d r) j in
           let n = eqb (name-of k d r j) w in
           rw (eqb-true (name-of k d r j) w (and-right m n s)) at (l .votes k r j hj (and-left m n s));
     }
-
-    pub votes-heard : (k : Kind) (r w : ℕ) → is-large d (power-for k d r w) ≡ true → Hears os k r w
-    unfolding prevote-power-for precommit-power-for
-    votes-heard pv r w t = seats-heard pv r w (rw (l .roll-is) at t)
-    votes-heard pc r w t = seats-heard pc r w (rw (l .roll-is) at t)

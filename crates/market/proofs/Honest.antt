@@ -29,14 +29,11 @@ use Rattle.agreement.specs.Moves.{Out, quiet}
 use Rattle.agreement.specs.Weigh.{scale-of}
 use Rattle.agreement.specs.Honest.{Kind, pv, pc, said, Arrived, Honest}
 use Rattle.market.specs.Seat.{acts, brings, step-number, view}
-use Rattle.market.proofs.Good.{acts-more, marks, hear, Good, logs-same, vote-logs, proposal-logs}
+use Rattle.market.proofs.Votes.{kind-of, marks, hear}
+use Rattle.market.proofs.Good.{acts-more, Good, logs-same, vote-logs, proposal-logs}
 use Rattle.market.proofs.Moving.{Next, start-next, deed-next}
 
 -- ## What an input does before the rules
-
-abbrev kind-of : Kind → ℕ
-kind-of pv = 3
-kind-of pc = 4
 
 -- a vote that is put brings itself
 brought : (k : Kind) (i : Input) → i .kind ≡ kind-of k → brings i (i .sender) (said k (i .round .0) (i .name))
@@ -162,11 +159,14 @@ module _ (roll : Roll) (A : Arrived) where
           begun = λ e. absurd (false≢true (sym (s .started) ∙ e));
         }
 
--- so the outputs of a history are an honest kiosk's
-pub honest : {roll : Roll} {cs : List Call} {p : Past} → History roll cs p → Honest (scale-of roll) (roll .own) (arrivals cs) (acts (sent-in cs))
-honest {roll} {cs} {p} h =
+-- so what `Good` says holds after every history
+pub history-good : {roll : Roll} {cs : List Call} {p : Past} → History roll cs p → Good roll (arrivals cs) (acts (sent-in cs)) (at p)
+history-good {roll} {cs} h =
     let A = arrivals cs in
-    let q = told-keeps (Rest roll A) (λ i. (j : ℕ) (o : Out) → brings i j o → A j o)
+    told-keeps (Rest roll A) (λ i. (j : ℕ) (o : Out) → brings i j o → A j o)
     (λ os p i t new r. rest-after roll A (fits-count roll (h .created .fits) .1) (ltb-true (roll .own) (roll .kiosks) (h .created .own)) os p i t new r)
-    (h .told) (λ c m j o b. (c, m, b)) [] (rest-begins roll A) in
-    record { view = view (at p); kept = q .good .kept }
+    (h .told) (λ c m j o b. (c, m, b)) [] (rest-begins roll A) .good
+
+-- and its outputs are an honest kiosk's
+pub honest : {roll : Roll} {cs : List Call} {p : Past} → History roll cs p → Honest (scale-of roll) (roll .own) (arrivals cs) (acts (sent-in cs))
+honest {p = p} h = record { view = view (at p); kept = history-good h .kept }

@@ -8,8 +8,8 @@ use mathlib.Core.Bool.{true}
 use native.Mathlib.Omega.{arith}
 use borrow.Author.Tests.{lt-ltb, ltb-true, ltb-false}
 use lib.Dec.{ltb}
-use lib.ListN.{length, take, length-take}
-use lib.Seq.{take-all, take-at, take-append-add}
+use lib.ListN.{length, take, length-take, length-replicate}
+use lib.Seq.{take-all, take-at, take-append-add, take-length}
 use Rattle.words.specs.Members.{In}
 use Rattle.words.proofs.Choice.{by-cases}
 use Rattle.words.proofs.Members.{In-left, In-last}
@@ -34,7 +34,7 @@ use Rattle.history.proofs.Replies.{code-put}
 use Rattle.history.proofs.OneHistory.{spoken, sent-more}
 use Rattle.agreement.specs.Moves.{Out}
 use Rattle.agreement.specs.Weigh.{scale-of}
-use Rattle.agreement.specs.System.{Opening, Lawful}
+use Rattle.agreement.specs.System.{Opening, opened, Lawful}
 use Rattle.market.specs.Seat.{acts, brings}
 use Rattle.market.specs.Kiosks.{May-create, May-open, May-put, opening-of, kiosk-of}
 use Rattle.market.proofs.Good.{acts-append}
@@ -73,6 +73,28 @@ opens-to d o m r e =
     ∙ ap (λ (a : Answer). opening-of a (record { kiosk = m .reply .kiosk; table = m .after })) (m .meets .answer ∙ ap (λ (x : Opened). x .answer) e)
     ∙ ap (λ (k : Kiosk). opening-of (r .answer) (record { kiosk = k; table = m .after })) (m .meets .kiosk ∙ ap (λ (x : Opened). x .kiosk) e)
     ∙ ap (λ (t : List ℕ). opening-of (r .answer) (record { kiosk = r .kiosk; table = t })) (m .meets .table-is ∙ ap (λ (x : Opened). x .table) e)
+
+-- such a file is opened so, whichever way it is lent
+pub empty-length : length empty-table ≡ table-length
+empty-length = length-replicate {A = ℕ} table-length 0
+
+pub opens-so : (file : List ℕ) (o : Opened) → open-journal file (length file) empty-table ≡ o → May-open file (opening-of (o .answer) (record { kiosk = o .kiosk; table = o .table }))
+opens-so file o e = record {
+  area = file;
+  begins = take-length file;
+  table = empty-table;
+  places = empty-length;
+  reply = record { answer = o .answer; sent = packed []; kiosk = o .kiosk };
+  after = o .table;
+  meets = rw e (record { answer = refl; sent = refl; kiosk = refl; table-is = refl });
+  answers = refl;
+}
+
+-- a file that holds a history, with what a power cut can leave after it
+pub left-opens : {roll : Roll} {cs : List Call} {p : Past} → History roll cs p → (tail : List ℕ) → Tail p tail → May-open (written roll cs ++ tail) (opened p (p .kiosk .used))
+left-opens {roll} {cs} {p} h tail t =
+    let d : List ℕ = written roll cs ++ tail in
+    opens-so d (opening.opened (p .kiosk) (p .table)) (opens-history d (length d) empty-table empty-length (omega arith) h tail t (take-length d))
 
 -- ## Creating
 

@@ -3,16 +3,14 @@ use Prim.Native.Nat.{ℕ, _≤_, _<_}
 use mathlib.Core.Path.{_≡_, refl, sym, ap, subst, _∙_}
 use mathlib.Core.Logic.{⊎-elim}
 use mathlib.Core.List.{List, [], _∷_, _++_}
-use mathlib.Core.Bool.{true, _&&_, not, false≢true}
+use mathlib.Core.Bool.{true, _&&_, not}
 use native.Mathlib.Omega.{arith}
 use lib.Dec.{eqb}
-use Rattle.words.proofs.Choice.{by-test}
+use Rattle.words.proofs.Choice.{by-test, zero-one}
 use Rattle.roll.specs.declared.Roll.{Roll}
 use Rattle.roll.specs.Weighing.{proposer}
-use Rattle.rules.specs.declared.Step.{Step}
-use Rattle.rules.specs.declared.Step.the-variants.{Propose, Prevote, Precommit}
 use Rattle.rules.specs.declared.Output.{Output}
-use Rattle.rules.specs.State.{most-rounds, is-propose, is-prevote, held, entered, with-stand, with-locked}
+use Rattle.rules.specs.State.{most-rounds, held, entered, with-stand, with-locked}
 use Rattle.rules.specs.Log.{Desk, with-state, hear-proposal, hear-prevote, hear-precommit}
 use Rattle.rules.specs.Doing.{current, step, own, output, sheet-to-propose, propose, prevote, precommit, ask-propose, ask-prevote, ask-precommit, start-round}
 use Rattle.rules.specs.Rules.{is-large, fire-49}
@@ -20,22 +18,9 @@ use Rattle.rules.proofs.Deeds.{Prevotes, nil, afresh, again, Closes, holding, D
 use Rattle.agreement.specs.Moves.{Out, settled, proposal, other, View, SameLock, Quiet, Move, quiet, enter, prevote-nil, prevote-new, prevote-old, precommit-nil, precommit-sheet, settle}
 use Rattle.agreement.specs.Honest.{Kind, pv, pc, said, Arrived}
 use Rattle.market.specs.Seat.{act, acts, step-number, view}
-use Rattle.market.proofs.Good.{acts-more, hear, power-for, Hears, Logs, Good, heard-more, logs-more, logs-same, advance, own-vote, vote-logs, proposal-logs, votes-heard}
-
--- ## Tests
-
-at-propose : (p : Step) → is-propose p ≡ true → step-number p ≡ 0
-at-propose Propose e = refl
-at-propose Prevote e = absurd (false≢true e)
-at-propose Precommit e = absurd (false≢true e)
-
-at-prevote : (p : Step) → is-prevote p ≡ true → step-number p ≡ 1
-at-prevote Propose e = absurd (false≢true e)
-at-prevote Prevote e = refl
-at-prevote Precommit e = absurd (false≢true e)
-
-zero-one : _≡_ {A = ℕ} 0 1 → ⊥
-zero-one e = omega arith
+use Rattle.market.proofs.Votes.{hear, power-for}
+use Rattle.market.proofs.Steps.{at-propose, at-prevote}
+use Rattle.market.proofs.Good.{acts-more, Hears, Logs, Good, heard-more, logs-more, logs-same, advance, own-vote, vote-logs, proposal-logs, votes-heard}
 
 -- a timer, and a proposal, is no vote and no settling
 quiet-other : Quiet (other ∷ [])

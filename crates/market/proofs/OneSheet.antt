@@ -1,50 +1,36 @@
 -- Demand 3 as it is stated: one sheet, a settled state that was sent, and opening after a power cut. Assumes nothing.
-use Prim.Native.Nat.{ℕ, _*_, _^_, _<_}
 use mathlib.Core.Path.{_≡_, sym, ap, subst, _∙_}
 use mathlib.Core.Logic.{_⊎_, inl, inr, ⊎-elim}
-use mathlib.Core.List.{List}
-use mathlib.Core.Bool.{true, not}
+use mathlib.Core.Bool.{true}
+use native.Mathlib.Omega.{arith}
 use lib.ListN.{length}
 use Rattle.words.specs.Members.{In}
-use Rattle.roll.specs.Weighing.{power-of, total-of, roll-fits}
 use Rattle.rules.specs.State.{is-settled}
 use Rattle.rules.specs.Log.{empty-table}
 use Rattle.answers.specs.declared.Answer.the-variants.{HeaderShort}
 use Rattle.kiosk.specs.Opening.{Opened, failed, open-journal}
 use Rattle.kiosk.specs.Opening as opening
 use Rattle.history.specs.Histories.{Past, sent-in}
-use Rattle.agreement.specs.Weigh.{Seats}
-use Rattle.agreement.specs.System.{Lawful, Shared, Sound}
-use Rattle.agreement.proofs.System.{demand3-sheets, demand3-boards, on-so, off-so, out-put}
+use Rattle.agreement.proofs.System.{demand3-sheets, on-so, off-so}
 use Rattle.market.specs.Seat.{acts}
 use Rattle.market.specs.Kiosks.{kiosk-of}
-use Rattle.market.specs.Demand3.{roll-at, scale, World, Reached, One-sheet-sent, settled-sheet, Settled-sent, One-sheet-held, Opens-whole}
+use Rattle.market.specs.Demand3.{roll-at, scale, One-sheet-sent, settled-sheet, Settled-sent, One-sheet-held, Opens-whole}
 use Rattle.market.proofs.Settled.{settling, settled-so}
 use Rattle.market.proofs.Kiosks.{lawful, unmade-short, left-whole, left-records, creates}
-
-module _ (powers : List ℕ) (height : ℕ) (keeps : Seats) (fits : roll-fits (roll-at powers height 0) ≡ true) (tall : height < 2 ^ 32)
-    (third : 3 * power-of (roll-at powers height 0) (λ i. not (keeps i)) < total-of (roll-at powers height 0)) where
-  abbrev law : (i : ℕ) → i < length powers → Lawful (kiosk-of powers height i) (scale powers height) i
-  law i hi = lawful powers i height fits hi tall
-
-  abbrev shared : Shared (scale powers height) keeps (kiosk-of powers height)
-  shared = record { few = third; lawful = λ i hi ki. law i hi }
-
-  -- each rule-keeping kiosk goes by a history
-  sound : (w : World powers height keeps) → Reached powers height keeps w → (i : ℕ) (hi : i < length powers) → keeps i ≡ true → Sound (law i hi) keeps (w .board i) (w .air)
-  sound w reach = demand3-boards (scale powers height) keeps (kiosk-of powers height) shared w reach
+use Rattle.market.proofs.Each.{Terms, law, shared, sound, recalled-out}
 
 pub one-sheet-sent : One-sheet-sent
 one-sheet-sent powers height keeps fits tall third w reach i j r s u v hi ki hj kj a b =
-    demand3-sheets (scale powers height) keeps (kiosk-of powers height) (shared powers height keeps fits tall third) w reach i j r s u v hi ki hj kj a b
+    demand3-sheets (scale powers height) keeps (kiosk-of powers height) (shared (record { fits = fits; tall = tall; few = omega (arith, third) })) w reach i j r s u v hi ki hj kj a b
 
 pub settled-sent : Settled-sent
 unfolding lawful
 settled-sent powers height keeps fits tall third w reach i hi ki p d eb e =
-    let q = sound powers height keeps fits tall third w reach i hi ki in
+    let m : Terms powers height keeps = record { fits = fits; tall = tall; few = third } in
+    let q = sound m w reach i hi ki in
     let h = q .history in
-    let is : p ≡ h .past = on-so (lawful powers i height fits hi tall) (q .holds) eb .0 in
-    out-put (scale powers height) keeps (kiosk-of powers height) w i (lawful powers i height fits hi tall) q p d eb (settling p)
+    let is : p ≡ h .past = on-so (law m i hi) (q .holds) eb .0 in
+    recalled-out m i hi w (settling p) q
     (subst (λ (x : Past). is-settled (x .kiosk .state .phase) ≡ true → In (settling x) (acts (sent-in (h .calls)))) (sym is) (settled-so (h .history)) e)
 
 pub one-sheet-held : One-sheet-held
@@ -56,7 +42,7 @@ one-sheet-held powers height keeps fits tall third w reach i j hi ki hj kj p q d
 pub opens-whole : Opens-whole
 unfolding lawful sent-in
 opens-whole powers height keeps fits tall third w reach i hi ki d eb area table begins places reply after m =
-    let q = sound powers height keeps fits tall third w reach i hi ki in
+    let q = sound (record { fits = fits; tall = tall; few = omega (arith, third) }) w reach i hi ki in
     let h = q .history in
     let roll = roll-at powers height i in
     ⊎-elim

@@ -12,7 +12,7 @@ use lib.Seq.{take-at, take-length, take-append-add}
 use Rattle.words.specs.Choice.{if_then_else_, the-choices}
 use Rattle.words.specs.Bytes.{in-order, overwrite}
 use Rattle.words.specs.Members.{In}
-use Rattle.words.proofs.Choice.{and-left, and-right}
+use Rattle.words.proofs.Choice.{and-left, and-right, zero-one}
 use Rattle.roll.specs.declared.Roll.{Roll}
 use Rattle.roll.specs.Weighing.{roll-fits, the-weighing}
 use Rattle.rules.specs.declared.Input.{Input}
@@ -35,16 +35,17 @@ use Rattle.kiosk.specs.Opening.{Opened, failed, open-journal}
 use Rattle.kiosk.specs.Opening as openings
 use Rattle.history.specs.Histories.{Call, call-bytes, Past, does, after, takes, Wide, All-wide, no-input, one-input, Creates, History, beginning, written, Tail, none, records, sent-in, all-taken, calls-of, leaves, the-histories}
 use Rattle.history.proofs.Finding.{part-tail}
-use Rattle.history.proofs.Openings.{opens-short, opens-history, history-used, created-length}
+use Rattle.history.proofs.Openings.{opens-short, history-used, created-length}
 use Rattle.history.proofs.Puts.{more, longer-bytes, written-snoc, takes-put, create-bytes}
 use Rattle.history.proofs.OneHistory.{spoken, taken-told}
 use Rattle.agreement.specs.Weigh.{Seats}
 use Rattle.agreement.specs.Moves.{Out}
-use Rattle.agreement.specs.System.{opened, no-header, Board, off, on, Msg, by, Change, create, wake, write, write-cut, cut, change, send, begin, awake, asleep}
+use Rattle.agreement.specs.System.{opened, no-header, Board, off, on, Msg, by, Change, create, wake, write, write-cut, cut, change, send, begin, next, awake, asleep}
 use Rattle.agreement.specs.System as system
 use Rattle.market.specs.Seat.{acts, message}
 use Rattle.market.specs.Kiosks.{May-create, May-open, May-put, opening-of, kiosk-of}
-use Rattle.market.specs.Demand3.{roll-at, scale, World, Step, Put-out}
+use Rattle.market.specs.Demand3.{roll-at, scale, World, Step, Reached, Leads, here, further, Put-out}
+use Rattle.market.proofs.Kiosks.{empty-length, opens-so, left-opens}
 use Rattle.market.proofs.Kiosks as kiosks
 
 -- ## A kiosk after some inputs, in order
@@ -107,7 +108,7 @@ narrow-then (i ∷ is) xs e =
     let r = narrow-then is xs (and-right a (narrow (is ++ xs)) e) in
     (rw t (r .0), r .1)
 
-wide-first : (i : Input) (is : List Input) → narrow (i ∷ is) ≡ true → Wide i
+pub wide-first : (i : Input) (is : List Input) → narrow (i ∷ is) ≡ true → Wide i
 unfolding narrow
 wide-first i is e =
     let a = ltb (i .name) (2 ^ 64) in
@@ -122,32 +123,8 @@ all-wide (i ∷ is) e = one-input {i = i} (wide-first i is e) (all-wide is (and-
 
 -- ## Creating, opening and putting, met by replies that say what the definitions give
 
-pub zero-one : _≡_ {A = ℕ} 0 1 → ⊥
-zero-one e = omega arith
-
-empty-length : length empty-table ≡ table-length
-empty-length = length-replicate {A = ℕ} table-length 0
-
-opens-so : (file : List ℕ) (o : Opened) → open-journal file (length file) empty-table ≡ o → May-open file (opening-of (o .answer) (record { kiosk = o .kiosk; table = o .table }))
-opens-so file o e = record {
-  area = file;
-  begins = take-length file;
-  table = empty-table;
-  places = empty-length;
-  reply = record { answer = o .answer; sent = packed []; kiosk = o .kiosk };
-  after = o .table;
-  meets = rw e (record { answer = refl; sent = refl; kiosk = refl; table-is = refl });
-  answers = refl;
-}
-
--- a file that holds a history, with what a power cut can leave after it
-left-opens : {roll : Roll} {cs : List Call} {p : Past} → History roll cs p → (tail : List ℕ) → Tail p tail → May-open (written roll cs ++ tail) (opened p (p .kiosk .used))
-left-opens {roll} {cs} {p} h tail t =
-    let d : List ℕ = written roll cs ++ tail in
-    opens-so d (openings.opened (p .kiosk) (p .table)) (opens-history d (length d) empty-table empty-length (omega arith) h tail t (take-length d))
-
 -- one call more, in an area that just holds it
-one-more : {roll : Roll} {cs : List Call} {p : Past} → History roll cs p → (x : Input) → Wide x → takes p x ≡ true
+pub one-more : {roll : Roll} {cs : List Call} {p : Past} → History roll cs p → (x : Input) → Wide x → takes p x ≡ true
     → May-put p (written roll cs) x (after p x) (written roll (more cs p x))
 one-more {roll} {cs} {p} h x w t =
     let n = group-length (does p x .sent) in
@@ -177,6 +154,15 @@ unwritten {roll} c area table places = opens-short area 0 table places (omega ar
 
 pub none-there : {roll : Roll} → Creates roll → May-open [] no-header
 none-there c = opens-so [] (failed HeaderShort empty-table) (unwritten c [] empty-table empty-length)
+
+-- the change that opens it, whatever may arrive
+pub waked : {powers : List ℕ} {height i : ℕ} {May : Input → Type 0} {roll : Roll} {cs : List Call} {p : Past} → History roll cs p → (d tail : List ℕ) → Tail p tail
+    → d ≡ written roll cs ++ tail → Change (kiosk-of powers height i) May (off d) (on p (written roll cs))
+waked {roll = roll} {cs = cs} {p = p} h d tail t e =
+    let file : List ℕ = written roll cs in
+    rw e
+    (wake (file ++ tail) p (p .kiosk .used) refl (left-opens h tail t)
+    (ap {B = Board Past} (on p) (sym (take-at file tail (p .kiosk .used) (sym (history-used h))))))
 
 -- ## The same of a story
 
@@ -281,13 +267,13 @@ module _ (powers : List ℕ) (height : ℕ) (keeps : Seats) where
   abbrev pub Reached-with : (World powers height keeps → World powers height keeps → Type 0) → World powers height keeps → Type 0
   Reached-with S w = system.Reach (scale powers height) keeps (kiosk-of powers height) S w
 
+  -- what steps lead to from a world that is reached is reached
+  pub leads-on : {v w : World powers height keeps} → Reached powers height keeps v → Leads powers height keeps v w → Reached powers height keeps w
+  leads-on r here = r
+  leads-on r (further l s) = next (leads-on r l) s
+
   pub begins : {S : World powers height keeps → World powers height keeps → Type 0} → Reached-with S unbegun
   begins = begin (λ i. refl) refl
-
-  -- what honest steps lead to from any world
-  pub data Leads (v : World powers height keeps) : World powers height keeps → Type 0 where
-    here : Leads v v
-    further : {w w′ : World powers height keeps} → Leads v w → Step powers height keeps w w′ → Leads v w′
 
 -- a rule-keeping seat
 pub record Keeper (powers : List ℕ) (keeps : Seats) (i : ℕ) : Type 0 where
@@ -341,15 +327,6 @@ module _ (m : Setting) where
     again {b} {b′} r c =
         m .onward (with-board w i b) (with-board w i b′) r (change i (k .on-roll) (k .rule) (rw (eq-eqb i i refl) c) (λ j n. rw (ne-eqb j i n)) refl)
 
-    -- opened, with what a power cut can leave after its history
-    waked : {roll : Roll} {cs : List Call} {p : Past} → History roll cs p → (d tail : List ℕ) → Tail p tail → d ≡ written roll cs ++ tail
-        → Changes (w .air) i (off d) (on p (written roll cs))
-    waked {roll} {cs} {p} h d tail t e =
-        let file : List ℕ = written roll cs in
-        rw e
-        (wake (file ++ tail) p (p .kiosk .used) refl (left-opens h tail t)
-        (ap {B = Board Past} (on p) (sym (take-at file tail (p .kiosk .used) (sym (history-used h))))))
-
     put-one : {roll : Roll} (is : List Input) (x : Input) {os : List Out} → Story roll (is ++ (x ∷ [])) os → Sees (w .air) i x
         → Changes (w .air) i (kiosk-after roll is) (kiosk-after roll (is ++ (x ∷ [])))
     put-one {roll} is x s sees =
@@ -373,7 +350,7 @@ module _ (m : Setting) where
         let s = untold (m .powers) (m .height) (m .fits) (m .tall) i (k .on-roll) in
         let first = moved w k r e
         (create [] head (length head) refl (none-there (s .created)) (may-create (m .powers) (m .height) (m .fits) (m .tall) i (k .on-roll)) (ap {B = Board Past} off (sym (take-length head)))) in
-        again w k first (waked w k (told s) head [] none (sym (append-nil head)))
+        again w k first (waked (told s) head [] none (sym (append-nil head)))
 
     -- power goes between two calls
     pub rests : {p : Past} {d : List ℕ} → Came w → w .board i ≡ on p d → Came (with-board w i (off d))
@@ -410,12 +387,12 @@ module _ (m : Setting) where
             let sent = does p x .sent in
             let g : List ℕ = group-bytes x sent in
             let tail : Tail p (take n g) = part-tail p x n (last-taken is x s) (last-wide is x s) (omega (arith, length-group x sent)) in
-            moved w k r e (waked w k (told (first-part is (x ∷ []) s)) (cut-file roll is x n) (take n g) tail refl)
+            moved w k r e (waked (told (first-part is (x ∷ []) s)) (cut-file roll is x n) (take n g) tail refl)
 
       module _ {os : List Out} (s : Story roll is os) where
         -- the journal opened again
         pub wakes : Came w → w .board i ≡ off (file-after roll is) → Came (with-board w i (kiosk-after roll is))
-        wakes r e = moved w k r e (waked w k (told s) (file-after roll is) [] none (sym (append-nil (file-after roll is))))
+        wakes r e = moved w k r e (waked (told s) (file-after roll is) [] none (sym (append-nil (file-after roll is))))
 
         -- an output of a whole record is sent
         pub spoke : Came w → w .board i ≡ kiosk-after roll is → (o : Out) → In o os → Came (with-word w i o)

@@ -42,6 +42,11 @@ Step powers height keeps = system.Step (scale powers height) keeps (kiosk-of pow
 abbrev pub Reached : (powers : List ℕ) (height : ℕ) (keeps : Seats) → World powers height keeps → Type 0
 Reached powers height keeps w = system.Reach (scale powers height) keeps (kiosk-of powers height) (Step powers height keeps) w
 
+-- what steps lead to from any world
+pub data Leads (powers : List ℕ) (height : ℕ) (keeps : Seats) (v : World powers height keeps) : World powers height keeps → Type 0 where
+  here : Leads powers height keeps v v
+  further : {w w′ : World powers height keeps} → Leads powers height keeps v w → Step powers height keeps w w′ → Leads powers height keeps v w′
+
 -- an output of a whole record of seat i's file, or of those that opening keeps of it
 abbrev pub Put-out : (powers : List ℕ) (height : ℕ) (keeps : Seats) → World powers height keeps → ℕ → Out → Type 0
 Put-out powers height keeps w i o = system.Put-out (scale powers height) keeps (kiosk-of powers height) i w o

@@ -65,11 +65,11 @@ not-a-rule (Line49 r name) e = absurd (true≢false e)
 not-a-rule (Line55 r) e = absurd (true≢false e)
 
 -- where a kiosk runs and its first rule is none, no rule applies
-pub none-applies : (d : Desk) → Runs d → first-rule d ≡ Nothing → Quiet d × (applies-55 d ≡ false)
+pub none-applies : (d : Desk) → Runs d → first-rule d ≡ Nothing → Quiet d × (applies-49 d ≡ false) × (applies-55 d ≡ false)
 none-applies d run none =
-    by-rule (λ rule. rule ≡ Nothing → Quiet d × (applies-55 d ≡ false)) d
+    by-rule (λ rule. rule ≡ Nothing → Quiet d × (applies-49 d ≡ false) × (applies-55 d ≡ false)) d
     (λ stopped e. absurd (true≢false (sym run ∙ stopped)))
-    (λ r quiet n49 n55 e. (quiet, n55))
+    (λ r quiet n49 n55 e. (quiet, n49, n55))
     (λ r a e. is-one Line22 e refl) (λ r a e. is-one Line28 e refl) (λ r a e. is-one Line34 e refl) (λ r a e. is-one (Line36 _) e refl)
     (λ r a e. is-one Line44 e refl) (λ r a e. is-one Line47 e refl) (λ r q a e. is-one (Line49 _ _) e refl) (λ r q n a e. is-one (Line55 _) e refl)
     none

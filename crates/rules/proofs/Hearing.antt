@@ -3,18 +3,18 @@ use Prim.Native.Nat.{ℕ, _<_}
 use mathlib.Core.Path.{_≡_, refl, sym, ap, _∙_}
 use mathlib.Core.Logic.{_⊎_, inl, inr, ⊎-elim}
 use mathlib.Core.List.{List}
-use mathlib.Core.Bool.{Bool, true, false, _||_, true≢false, false≢true}
+use mathlib.Core.Bool.{Bool, true, false, not, true≢false, false≢true}
 use native.Mathlib.Omega.{arith}
 use native.Mathlib.Decide.{ℕ-discrete}
 use lib.ListN.{length, getD, set, length-set}
 use lib.Seq.{getD-set-same, getD-set-other}
 use lib.Dec.{eqb}
-use borrow.Author.Tests.{eqb-true, eqb-false}
+use borrow.Author.Tests.{eqb-true, eq-eqb}
 use Rattle.words.specs.Choice.{if_then_else_}
 use Rattle.words.specs.Marks.{marked, mark}
-use Rattle.words.proofs.Choice.{or-case}
+use Rattle.words.proofs.Choice.{by-cases, or-case, or-so}
 use Rattle.words.proofs.MarkLaws.{marked-zero, mark-seats}
-use Rattle.words.proofs.Places.{set-at, set-back}
+use Rattle.words.proofs.Places.{set-at, place-kept, set-back}
 use Rattle.rules.specs.declared.Heard.{Heard}
 use Rattle.rules.specs.declared.Log.{Log}
 use Rattle.rules.specs.State.{spoken}
@@ -68,22 +68,24 @@ marks-more l r i q j = go (ℕ-discrete q r)
         (λ t. absurd (false≢true (sym (marked-zero j) ∙ t))))
     go (no n) = λ t. inr (sym (ap (λ (x : ℕ). marked x j) (getD-set-other l r q (mark (getD l r 0) i) 0 n)) ∙ t)
 
--- a mark that is not there is not that vote's, and was not there
+-- that vote's is there
+pub mark-new : (l : List ℕ) (r i : ℕ) → r < length l → marked (getD (set l r (mark (getD l r 0) i)) r 0) i ≡ true
+mark-new l r i less =
+    ap (λ (x : ℕ). marked x i) (getD-set-same l r (mark (getD l r 0) i) 0 less)
+    ∙ mark-seats (getD l r 0) i i ∙ or-so (eqb i i) (marked (getD l r 0) i) (inl (eq-eqb i i refl))
+
+-- and none is lost
+pub mark-kept : (l : List ℕ) (r i q j : ℕ) → marked (getD l q 0) j ≡ true → marked (getD (set l r (mark (getD l r 0) i)) q 0) j ≡ true
+mark-kept l r i q j =
+    place-kept (λ (x : ℕ). marked x j ≡ true) (λ x. mark x i) (λ x h. mark-seats x i j ∙ or-so (eqb i j) (marked x j) (inr h)) l r q
+
+-- so a mark that is not there is not that vote's, and was not there
 marks-less : (l : List ℕ) (r i q j : ℕ) → r < length l → marked (getD (set l r (mark (getD l r 0) i)) q 0) j ≡ false →
     ((q ≡ r) × (j ≡ i) → ⊥) × (marked (getD l q 0) j ≡ false)
-marks-less l r i q j less = go (ℕ-discrete q r)
-  where
-    same : (a b : Bool) → eqb i j ≡ a → marked (getD l r 0) j ≡ b → (eqb i j || marked (getD l r 0) j) ≡ false → (j ≡ i → ⊥) × (marked (getD l r 0) j ≡ false)
-    same true b e f z = absurd (true≢false (rw e at z))
-    same false b e f z = (λ y. eqb-false i j e (sym y), rw e at z)
-
-    go : Dec (q ≡ r) → marked (getD (set l r (mark (getD l r 0) i)) q 0) j ≡ false → ((q ≡ r) × (j ≡ i) → ⊥) × (marked (getD l q 0) j ≡ false)
-    go (yes e) =
-        rw e (λ t.
-        let off : marked (mark (getD l r 0) i) j ≡ false = sym (ap (λ (x : ℕ). marked x j) (getD-set-same l r (mark (getD l r 0) i) 0 less)) ∙ t in
-        let s = same (eqb i j) (marked (getD l r 0) j) refl refl (sym (mark-seats (getD l r 0) i j) ∙ off) in
-        (λ h. s .0 (h .1), s .1))
-    go (no n) = λ t. (λ h. n (h .0), sym (ap (λ (x : ℕ). marked x j) (getD-set-other l r q (mark (getD l r 0) i) 0 n)) ∙ t)
+marks-less l r i q j less t = (
+  λ h. true≢false (sym (mark-new l r i less) ∙ (rw (h .0, h .1) at t)),
+  by-cases (marked (getD l q 0) j) (λ e. absurd (true≢false (sym (mark-kept l r i q j e) ∙ t))) (λ e. e),
+)
 
 module _ (place : ℕ → ℕ → ℕ) (apart : (r i q j : ℕ) → i < 32 → j < 32 → place q j ≡ place r i → (q ≡ r) × (j ≡ i))
     (marks table : List ℕ) (r i name : ℕ) (hi : i < 32) (q j : ℕ) (hj : j < 32) where
@@ -175,6 +177,11 @@ module _ (d : Desk) (r i name : ℕ) (hi : i < 32) where
     unfolding hear-precommit told
     precommit-unheard = vote-less precommit-place precommits-apart (d .state .log .precommits) (d .table) r i name hi q j hj
 
+-- with either verdict a proposal is heard
+verdict-some : (good : Bool) → not (eqb (if good then 2 else 1) 0) ≡ true
+verdict-some true = refl
+verdict-some false = refl
+
 -- a proposal changes no vote, and no other round's proposal
 module _ (d : Desk) (r : ℕ) (good : Bool) (valid name : ℕ) where
   pub proposal-prevotes : (q j : ℕ) → j < 32 →
@@ -207,8 +214,9 @@ module _ (d : Desk) (r : ℕ) (good : Bool) (valid name : ℕ) where
   unfolding hear-proposal
   proposal-spoken {rounds} s less =
       let h = heard d r in
-      ap spoken (told-same rounds (d .state .log) s r (record { prevotes = h .prevotes; precommits = h .precommits; proposal = if good then 2 else 1; valid = valid }) less) ∙ said good
-    where
-      said : (b : Bool) → spoken (record { prevotes = heard d r .prevotes; precommits = heard d r .precommits; proposal = if b then 2 else 1; valid = valid }) ≡ true
-      said true = refl
-      said false = refl
+      ap spoken (told-same rounds (d .state .log) s r (record { prevotes = h .prevotes; precommits = h .precommits; proposal = if good then 2 else 1; valid = valid }) less) ∙ verdict-some good
+
+  -- as is each round that was
+  pub proposal-kept : (q : ℕ) → spoken (heard d q) ≡ true → spoken (heard (hear-proposal d r good valid name) q) ≡ true
+  unfolding hear-proposal told
+  proposal-kept q = place-kept (λ (x : ℕ). not (eqb x 0) ≡ true) (λ x. if good then 2 else 1) (λ x h. verdict-some good) (d .state .log .proposals) r q

@@ -1,6 +1,6 @@
--- Laws of choice: an `if`, `&&`, and the tests over the numbers below a bound. Assumes nothing.
+-- Laws of choice: an `if`, `&&`, `||`, and the tests over the numbers below a bound. Assumes nothing.
 use Prim.Native.Nat.{ℕ, zero, suc, _+_, _≤_, _<_, pred}
-use mathlib.Core.Path.{_≡_, refl}
+use mathlib.Core.Path.{_≡_, refl, sym, subst, _∙_}
 use mathlib.Core.Bool.{Bool, true, false, _&&_, _||_, false≢true}
 use mathlib.Core.Logic.{_⊎_, inl, inr, ⊎-elim}
 use mathlib.Core.List.{List, [], _∷_}
@@ -8,7 +8,7 @@ use native.Mathlib.Nat.{eq-or-lt-of-le}
 use native.Mathlib.Numerals.{add-one}
 use native.Mathlib.Omega.{arith}
 use lib.Dec.{ltb}
-use borrow.Author.Tests.{lt-ltb, le-ltb, ltb-true}
+use borrow.Author.Tests.{lt-ltb, le-ltb, ltb-true, ltb-false}
 use Rattle.words.specs.Choice.{if_then_else_, all-below, lowest-below, past-highest-below, first-of}
 
 -- a statement about an `if` is proved at each of its two values, where the test's answer is known
@@ -37,6 +37,14 @@ and-false false b f = refl
 pub or-case : (a b : Bool) → (a || b) ≡ true → (a ≡ true) ⊎ (b ≡ true)
 or-case true b e = inl refl
 or-case false b e = inr e
+
+pub or-so : (a b : Bool) → (a ≡ true) ⊎ (b ≡ true) → (a || b) ≡ true
+or-so true b h = refl
+or-so false b h = ⊎-elim (λ e. absurd (false≢true e)) (λ e. e) h
+
+-- what `cc` is asked for where two constructors would be equal
+pub zero-one : _≡_ {A = ℕ} 0 1 → ⊥
+zero-one e = omega arith
 
 -- the first that passes the test does pass it
 pub first-passes : (xs : List ℕ) (test : ℕ → Bool) → (first-of xs test ≡ 0 → ⊥) → test (first-of xs test) ≡ true
@@ -102,6 +110,21 @@ lowest-found (suc n) k p none passes =
     (λ same. rw (← same, none, le-ltb k k (omega arith), passes))
     (λ less. rw (lowest-found n k p none passes less, lt-ltb k n less))
     (eq-or-lt-of-le {n = k} {m = n} (omega arith))
+
+-- no number below the lowest passes
+pub lowest-least : (n : ℕ) (p : ℕ → Bool) (k : ℕ) → k < n → p k ≡ true → lowest-below n p ≤ k
+unfolding lowest-below
+lowest-least zero p k l t = absurd (omega arith)
+lowest-least (suc n) p k l t =
+    by-test (λ (m : ℕ). m ≤ k) (ltb (lowest-below n p) n)
+    (λ e. ⊎-elim
+    (λ same. omega (arith, same, ltb-true (lowest-below n p) n e))
+    (λ less. lowest-least n p k less t)
+    (eq-or-lt-of-le {n = k} {m = n} (omega arith)))
+    (λ e. ⊎-elim
+    (λ same. by-test (λ (m : ℕ). m ≤ k) (p n) (λ f. omega (arith, same)) (λ f. absurd (false≢true (sym f ∙ subst (λ (m : ℕ). p m ≡ true) same t))))
+    (λ less. absurd (omega (arith, ltb-false (lowest-below n p) n e, lowest-least n p k less t)))
+    (eq-or-lt-of-le {n = k} {m = n} (omega arith)))
 
 -- a test that holds at each number below the bound holds at any one of them
 pub all-holds : (n : ℕ) (p : ℕ → Bool) → all-below n p ≡ true → (k : ℕ) → k < n → p k ≡ true
