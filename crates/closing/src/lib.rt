@@ -1,0 +1,1 @@
+// A good round always closes: the statement in specs/ and its proof in proofs/.
