@@ -4,6 +4,8 @@
 // Each test program uses its own part of this.
 #![allow(dead_code)]
 
+pub mod market;
+
 pub use compare::calls::JUNK;
 pub use compare::inputs::*;
 use second::*;
