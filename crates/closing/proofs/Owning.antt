@@ -9,7 +9,7 @@ use native.Mathlib.Omega.{arith}
 use native.Mathlib.Decide.{ℕ-discrete}
 use lib.ListN.{length, getD, length-replicate}
 use lib.Dec.{eqb}
-use borrow.Author.Tests.{eqb-true, ltb-true}
+use borrow.Author.Tests.{eqb-true}
 use Rattle.words.specs.Choice.{if_then_else_}
 use Rattle.words.specs.Marks.{marked}
 use Rattle.words.specs.Members.{In}
@@ -18,7 +18,6 @@ use Rattle.words.proofs.Members.{In-left, In-right, In-last}
 use Rattle.words.proofs.Places.{zeros-at}
 use Rattle.roll.specs.declared.Roll.{Roll}
 use Rattle.roll.specs.Weighing.{proposer}
-use Rattle.roll.proofs.Weighing.{fits-count}
 use Rattle.rules.specs.declared.Asked.{Asked}
 use Rattle.rules.specs.declared.Input.{Input}
 use Rattle.rules.specs.declared.Log.{Log}
@@ -48,7 +47,7 @@ use Rattle.market.specs.Seat.{act, acts, brings, step-number}
 use Rattle.market.proofs.Votes.{hear, beside-vote, beside-proposal, proposal-votes, vote-marked, vote-kept, vote-sheets}
 use Rattle.market.proofs.Steps.{at-propose, at-prevote, past-prevote}
 use Rattle.market.proofs.Good.{acts-more}
-use Rattle.market.proofs.Honest.{told-keeps, arrivals, at}
+use Rattle.market.proofs.Honest.{history-told, arrivals, at}
 
 -- ## Outputs
 
@@ -371,10 +370,7 @@ module _ (roll : Roll) (A : Arrived) where
 -- so of every history
 pub owns : {roll : Roll} {cs : List Call} {p : Past} → History roll cs p → Owns roll (arrivals cs) (acts (sent-in cs)) (at p)
 owns {roll} {cs} h =
-    let A = arrivals cs in
-    let r = told-keeps (Rest roll A) (λ i. (j : ℕ) (o : Out) → brings i j o → A j o)
-    (rest-after roll A (fits-count roll (h .created .fits) .1) (ltb-true (roll .own) (roll .kiosks) (h .created .own)))
-    (h .told) (λ c m j o b. (c, m, b)) [] (rest-begins roll A) in
+    let r = history-told h (Rest roll (arrivals cs)) (rest-begins roll (arrivals cs)) (rest-after roll (arrivals cs)) in
     let f = r .stands .files in
     record {
       sized = f .sized;

@@ -85,7 +85,7 @@ module _ (roll : Roll) (A : Arrived) (few : roll .kiosks ≤ 32) (own-seat : rol
 -- ## Calls, one after the other
 
 -- What holds of the outputs so far and of the past, and is kept by each call of which Such holds, is kept by all of them
-pub told-keeps : (P : List Out → Past → Type 0) (Such : Input → Type 0)
+told-keeps : (P : List Out → Past → Type 0) (Such : Input → Type 0)
     → ((os : List Out) (p : Past) (i : Input) → takes p i ≡ true → Such i → P os p → P (os ++ acts (does p i .sent)) (after p i))
     → {p q : Past} {cs : List Call} → Told p cs q → ((c : Call) → In c cs → Such (c .input)) → (os : List Out) → P os p → P (os ++ acts (sent-in cs)) q
 unfolding sent-in
@@ -97,6 +97,16 @@ told-keeps P Such keeps (told-more {p} {q} {c} {cs} t w e later) such os h =
 -- what the calls of a history brought
 abbrev pub arrivals : List Call → Arrived
 arrivals cs j o = (c : Call) × In c cs × brings (c .input) j o
+
+-- what holds at the beginning, and is kept by each call with what it brings, holds after the history
+pub history-told : {roll : Roll} {cs : List Call} {p : Past} → History roll cs p → (P : List Out → Past → Type 0) → P [] (beginning roll)
+    → (roll .kiosks ≤ 32 → roll .own < roll .kiosks → (os : List Out) (q : Past) (i : Input) → takes q i ≡ true → ((j : ℕ) (o : Out) → brings i j o → arrivals cs j o)
+    → P os q → P (os ++ acts (does q i .sent)) (after q i))
+    → P (acts (sent-in cs)) p
+history-told {roll} {cs} h P begins keeps =
+    told-keeps P (λ i. (j : ℕ) (o : Out) → brings i j o → arrivals cs j o)
+    (keeps (fits-count roll (h .created .fits) .1) (ltb-true (roll .own) (roll .kiosks) (h .created .own)))
+    (h .told) (λ c m j o b. (c, m, b)) [] begins
 
 abbrev pub at : Past → Desk
 at p = desk (p .kiosk .state) (p .table)
@@ -161,11 +171,7 @@ module _ (roll : Roll) (A : Arrived) where
 
 -- so what `Good` says holds after every history
 pub history-good : {roll : Roll} {cs : List Call} {p : Past} → History roll cs p → Good roll (arrivals cs) (acts (sent-in cs)) (at p)
-history-good {roll} {cs} h =
-    let A = arrivals cs in
-    told-keeps (Rest roll A) (λ i. (j : ℕ) (o : Out) → brings i j o → A j o)
-    (λ os p i t new r. rest-after roll A (fits-count roll (h .created .fits) .1) (ltb-true (roll .own) (roll .kiosks) (h .created .own)) os p i t new r)
-    (h .told) (λ c m j o b. (c, m, b)) [] (rest-begins roll A) .good
+history-good {roll} {cs} h = history-told h (Rest roll (arrivals cs)) (rest-begins roll (arrivals cs)) (rest-after roll (arrivals cs)) .good
 
 -- and its outputs are an honest kiosk's
 pub honest : {roll : Roll} {cs : List Call} {p : Past} → History roll cs p → Honest (scale-of roll) (roll .own) (arrivals cs) (acts (sent-in cs))

@@ -28,7 +28,7 @@ use Rattle.history.specs.Histories.{Call, Past, does, after, takes, History, se
 use Rattle.agreement.specs.Moves.{Out, settled}
 use Rattle.market.specs.Seat.{act, acts}
 use Rattle.market.specs.Demand3.{settled-sheet}
-use Rattle.market.proofs.Honest.{told-keeps, at}
+use Rattle.market.proofs.Honest.{history-told, at}
 
 -- ## In a call
 
@@ -104,5 +104,4 @@ shut-after os p i t e =
     (call-ends (at p) i (accepted-passes (p .kiosk .used) (p .kiosk) (p .table) i t))
 
 pub settled-so : {roll : Roll} {cs : List Call} {p : Past} → History roll cs p → is-settled (p .kiosk .state .phase) ≡ true → In (settling p) (acts (sent-in cs))
-settled-so {roll} {cs} {p} h =
-    told-keeps Shut (λ i. Unit) (λ os p i t such s. shut-after os p i t) (h .told) (λ c m. tt) [] (λ e. absurd (false≢true e))
+settled-so h = history-told h Shut (λ e. absurd (false≢true e)) (λ few own-seat os p i t new s. shut-after os p i t)
