@@ -10,53 +10,70 @@ FUZZ_SECONDS ?= 60
 # Checks at a time: two to a core keep both cores busy while the last of a batch ends.
 export RT_JOBS ?= 4
 
-.PHONY: test rust soak fuzz bench demo staticlib tools
+.PHONY: test rust board soak fuzz bench demo staticlib tools emulator native
 
+INSTALL := apt-get update && apt-get install -y
 # $(call need,COMMAND,PACKAGE)
-need = @command -v $(1) > /dev/null || { apt-get update && apt-get install -y $(2); }
+need = @command -v $(1) > /dev/null || { $(INSTALL) $(2); }
+
+# What rt compiles is x86-64 code on every machine. Where the machine is another, Debian's cargo builds what links it and an emulator runs it.
+# Cargo reads the linker and the runner under these names, and so do the tests in C.
+# The emulator does `rep movsb` byte by byte: without erms, which offers it, and in one codegen unit the tests take half the time.
+MACHINE := $(shell uname -m)
+X86 := x86_64-unknown-linux-gnu
+BOARD_CARGO := $(CARGO)
+ifneq ($(MACHINE),x86_64)
+BOARD_CARGO := CARGO_BUILD_TARGET=$(X86) CARGO_PROFILE_RELEASE_CODEGEN_UNITS=1 RUSTC=/usr/bin/rustc /usr/bin/$(CARGO)
+export CARGO_TARGET_X86_64_UNKNOWN_LINUX_GNU_LINKER := x86_64-linux-gnu-gcc
+RUNNER := qemu-x86_64 -cpu max,-erms
+export CARGO_TARGET_X86_64_UNKNOWN_LINUX_GNU_RUNNER := $(RUNNER)
+EMULATOR := cargo-web rustc-web libstd-rust-web-dev:amd64 gcc-x86-64-linux-gnu libc6-dev-amd64-cross qemu-user
+endif
 
 # The Rust tests of second/, the proved library among them through its C interface; then the proofs, the must-fail edits and the programs.
 # rt ci removes target/ and with it the library, so it comes last. Its last line is the verdict.
-test:
-	+@$(MAKE) --no-print-directory --output-sync=target -j2 staticlib rust
-	cd second && $(CARGO) test --release --quiet -p board -- --show-output
+test: emulator
+	+@$(MAKE) --no-print-directory --output-sync=target -j2 board rust
 	rt ci
 
 # The Rust tests that need no proved library.
 rust: tools
 	cd second && $(CARGO) test --release --quiet
 
+# The Rust tests of the proved library.
+board: emulator staticlib
+	cd second && $(BOARD_CARGO) test --release --quiet -p board -- --show-output
+
 # The same comparisons over many more calls, longer deliveries and more journals.
-soak: staticlib
+soak: emulator staticlib
 	cd second && $(CARGO) test --release --test deliveries -- --ignored --nocapture
-	cd second && SLIP_CALLS=$(SOAK_CALLS) $(CARGO) test --release -p board -- --nocapture
+	cd second && SLIP_CALLS=$(SOAK_CALLS) $(BOARD_CARGO) test --release -p board -- --nocapture
 
 # libFuzzer over open and put. The Rust side is instrumented (second, fast and what compares them); libboard.a is as rt writes it.
 # What fails is left in second/fuzz/found; what shall be played by `make test` from then on goes to second/fuzz/cases.
 FUZZ := $(CARGO_TARGET_DIR)/fuzz
-HOST := x86_64-unknown-linux-gnu
 COVERAGE := -Cpasses=sancov-module -Ccodegen-units=1 $(addprefix -Cllvm-args=-sanitizer-coverage-,level=4 inline-8bit-counters pc-table trace-compares)
-fuzz: staticlib
-	@test -e "$$(clang -print-file-name=libclang_rt.fuzzer-x86_64.a)" || { apt-get update && apt-get install -y clang libclang-rt-dev; }
+fuzz: native staticlib
+	@test -e "$$(clang -print-file-name=libclang_rt.fuzzer-x86_64.a)" || { $(INSTALL) clang libclang-rt-dev; }
 	mkdir -p $(FUZZ)/corpus second/fuzz/found
-	cd second && CARGO_TARGET_DIR=$(FUZZ) RUSTFLAGS="$(COVERAGE)" $(CARGO) build --release -p fuzz --target $(HOST)
-	clang -fsanitize=fuzzer $(FUZZ)/$(HOST)/release/libfuzz.a -o $(FUZZ)/fuzz
+	cd second && CARGO_TARGET_DIR=$(FUZZ) RUSTFLAGS="$(COVERAGE)" $(CARGO) build --release -p fuzz --target $(X86)
+	clang -fsanitize=fuzzer $(FUZZ)/$(X86)/release/libfuzz.a -o $(FUZZ)/fuzz
 	@echo "fuzzing for $(FUZZ_SECONDS) s, log in $(FUZZ)/log"
 	@$(FUZZ)/fuzz -max_total_time=$(FUZZ_SECONDS) -max_len=4096 -print_final_stats=1 -artifact_prefix=second/fuzz/found/ \
 	  $(FUZZ)/corpus second/fuzz/cases > $(FUZZ)/log 2>&1 || { tail -60 $(FUZZ)/log; exit 1; }
 	@grep -E 'DONE|stat::' $(FUZZ)/log
 
 # The table of docs/BENCH.md; the text around it stays.
-bench: staticlib
+bench: native staticlib
 	$(call need,valgrind,valgrind)
 	cd second && $(CARGO) build --profile measured -p bench
 	$(CARGO_TARGET_DIR)/measured/bench docs/BENCH.md
 
 # A journal in 01's layout, of 107 bytes, listed by the proved lister.
-demo: tools
+demo: emulator
 	@rt check lister > target.log 2>&1 || { cat target.log; exit 1; }
 	@rm -f target.log
-	@target/bin/lister < demo/one-kiosk.journal
+	@$(RUNNER) target/bin/lister < demo/one-kiosk.journal
 
 # target/staticlib/libboard.a, proved by the same command; what board needs is proved first, side by side.
 staticlib: tools
@@ -67,3 +84,12 @@ tools:
 	$(call need,cargo,cargo-web rustc-web)
 	$(call need,gcc,gcc)
 	@command -v rt > /dev/null || { echo 'rt, the command of the Rattle kit, is not on the PATH' >&2; exit 1; }
+
+# What builds and runs x86-64 programs on another machine; amd64 is Debian's word for x86-64.
+emulator: tools
+	@test $(MACHINE) = x86_64 || dpkg -s $(EMULATOR) > /dev/null 2>&1 || \
+	  { dpkg --add-architecture amd64 && $(INSTALL) --no-install-recommends $(EMULATOR); }
+
+# What measures or instruments x86-64 code: a time under an emulator says nothing.
+native:
+	@test $(MACHINE) = x86_64 || { echo 'make bench and make fuzz need an x86-64 machine, and this one is $(MACHINE)' >&2; exit 1; }

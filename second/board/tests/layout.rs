@@ -154,11 +154,18 @@ fn fields_of_a_reply() {
     }
 }
 
+/// The LINKER or the RUNNER that cargo takes for x86-64 programs, where the environment names one.
+fn named(word: &str) -> Option<String> {
+    std::env::var(format!("CARGO_TARGET_X86_64_UNKNOWN_LINUX_GNU_{word}")).ok()
+}
+
 /// What a C file of this folder prints, built against the header and the library.
 fn run_c(name: &str) -> String {
+    let gcc = named("LINKER").unwrap_or("gcc".into());
+    let runner = named("RUNNER").unwrap_or_default();
     let here = Path::new(env!("CARGO_MANIFEST_DIR"));
     let program = Path::new(env!("CARGO_TARGET_TMPDIR")).join(name);
-    let built = Command::new("gcc")
+    let built = Command::new(&gcc)
         .args(["-std=c99", "-Wall", "-Wextra", "-Werror", "-O1", "-I"])
         .arg(here.join("../../include"))
         .arg(here.join(name).with_extension("c"))
@@ -167,8 +174,13 @@ fn run_c(name: &str) -> String {
         .arg(&program)
         .status()
         .expect("gcc");
-    assert!(built.success(), "gcc on {name}.c");
-    let output = Command::new(&program).output().expect("the program");
+    assert!(built.success(), "{gcc} on {name}.c");
+    // env starts the runner on the program, or else the program.
+    let output = Command::new("env")
+        .args(runner.split_whitespace())
+        .arg(&program)
+        .output()
+        .expect("the program");
     assert!(output.status.success(), "{name}: {output:?}");
     String::from_utf8(output.stdout).expect("text")
 }
