@@ -10,7 +10,7 @@ FUZZ_SECONDS ?= 60
 # Checks at a time: two to a core keep both cores busy while the last of a batch ends.
 export RT_JOBS ?= 4
 
-.PHONY: test rust board soak fuzz bench demo staticlib tools emulator native
+.PHONY: test rust board told soak fuzz bench demo staticlib tools emulator native
 
 INSTALL := apt-get update && apt-get install -y
 # $(call need,COMMAND,PACKAGE)
@@ -43,6 +43,14 @@ rust: tools
 # The Rust tests of the proved library.
 board: emulator staticlib
 	cd second && $(BOARD_CARGO) test --release --quiet -p board -- --show-output
+
+# The calls with second's whole replies that crates/examples proves of the definitions.
+TOLD := crates/examples/proofs/Told.antt
+told: tools
+	cd second && $(CARGO) build --release --quiet --example told
+	$(CARGO_TARGET_DIR)/release/examples/told > $(CARGO_TARGET_DIR)/told.antt
+	cp $(CARGO_TARGET_DIR)/told.antt $(TOLD)
+	rt fmt
 
 # The same comparisons over many more calls, longer deliveries and more journals.
 soak: emulator staticlib

@@ -1,4 +1,7 @@
--- Laws and examples of the rules.
+-- Examples and laws of the rules.
+pub mod Whole
+pub mod Stories
+pub mod After
 pub mod ByRule
 pub mod ByInput
 pub mod Hearing
@@ -12,5 +15,3 @@ pub mod Ends
 pub mod Behind
 pub mod Reach
 pub mod Six
-pub mod Stories
-pub mod Examples

@@ -11,6 +11,7 @@ pub mod made_up;
 pub mod met;
 pub mod random;
 pub mod terms;
+pub mod told;
 
 pub use calls::{Engine, Lent, Sides, FAST};
 pub use deliveries::{Aim, Delivery, Market, AIMS};

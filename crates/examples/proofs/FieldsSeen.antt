@@ -1,0 +1,33 @@
+-- The board's functions give the numbers and pages that the lists say: one statement, which antt computes. Assumes nothing.
+use Prim.Native.Nat.{ℕ}
+use mathlib.Core.Path.{_≡_, refl, ap, sym}
+use mathlib.Core.List.{List}
+use Rattle.flat.specs.declared.FlatReply.{FlatReply}
+use Rattle.listing.specs.Text.{the-text}
+use Rattle.listing.specs.Listing.{the-listing}
+use Rattle.board.specs.declared.FlatPage.{FlatPage}
+use Rattle.board.specs.Board.{Lists, board-list}
+use Rattle.board.specs.Fields.{plain-number, log-number, kiosk-number, input-number, layout}
+use Rattle.examples.specs.Fields.{numbered, numbered-input, Number, numbers, input-numbers, Laid, layouts, Paged, pages, Seen}
+use Rattle.examples.proofs.Each.{all-so}
+use Rattle.examples.proofs.Kiosk.{the-kiosk}
+
+abbrev page-given : Paged → FlatPage × List ℕ
+page-given c = (c .page, c .text-after)
+
+abbrev page-computed : Paged → FlatPage × List ℕ
+page-computed c =
+    let o = board-list (c .journal) (c .text) in
+    (o .page, o .text)
+
+page-so : (c : Paged) → page-given c ≡ page-computed c → Lists (board-list (c .journal) (c .text)) (c .page) (c .text-after)
+page-so c e = record { page = ap (λ w. w .0) e; text-is = ap (λ w. w .1) e }
+
+pub fields-seen : Seen
+unfolding the-kiosk the-text the-listing board-list plain-number log-number kiosk-number input-number layout numbers input-numbers layouts pages
+fields-seen = record {
+  numbers-so = all-so (λ (c : Number). c .number) (λ (c : Number). kiosk-number numbered (c .field) (c .index)) (λ c e. sym e) numbers refl;
+  input-numbers-so = all-so (λ (c : Number). c .number) (λ (c : Number). input-number numbered-input (c .field)) (λ c e. sym e) input-numbers refl;
+  layouts-so = all-so (λ (c : Laid). c .reply) (λ (c : Laid). layout numbered (c .from)) (λ c e. sym e) layouts refl;
+  pages-so = all-so page-given page-computed page-so pages refl;
+}
