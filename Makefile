@@ -10,7 +10,7 @@ FUZZ_SECONDS ?= 60
 # Checks at a time: two to a core keep both cores busy while the last of a batch ends.
 export RT_JOBS ?= 4
 
-.PHONY: test rust board told soak fuzz bench demo staticlib tools emulator native
+.PHONY: test rust board told mutants soak fuzz bench demo staticlib tools emulator native
 
 INSTALL := apt-get update && apt-get install -y
 # $(call need,COMMAND,PACKAGE)
@@ -51,6 +51,11 @@ told: tools
 	$(CARGO_TARGET_DIR)/release/examples/told > $(CARGO_TARGET_DIR)/told.antt
 	cp $(CARGO_TARGET_DIR)/told.antt $(TOLD)
 	rt fmt
+
+# Wrong definitions, made from specs/ by one change each, against the lists of cases alone: prints those that no list refuses.
+mutants:
+	$(call need,python3,python3)
+	@tools/mutants.py
 
 # The same comparisons over many more calls, longer deliveries and more journals.
 soak: emulator staticlib
