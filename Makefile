@@ -48,8 +48,8 @@ board: emulator staticlib
 TOLD := crates/examples/proofs/Told.antt
 told: tools
 	cd second && $(CARGO) build --release --quiet --example told
-	$(CARGO_TARGET_DIR)/release/examples/told > $(CARGO_TARGET_DIR)/told.antt
-	cp $(CARGO_TARGET_DIR)/told.antt $(TOLD)
+	$(CARGO_TARGET_DIR)/release/examples/told > $(CARGO_TARGET_DIR)/told.txt
+	cp $(CARGO_TARGET_DIR)/told.txt $(TOLD)
 	rt fmt
 
 # Wrong definitions, made from specs/ by one change each, against the lists of cases alone: prints those that no list refuses.
