@@ -42,7 +42,7 @@ def tokens_of(text):
 
 
 # kind: name, number, field (a projection), paren, apply, chain (operands of one operator), if, let, lambda, elim, record. `names` are
-# what a let or a lambda binds, the patterns of an elim, the fields of a record.
+# what a let or a lambda binds, the patterns of an elim, the fields of a record, the operators of a chain.
 class Node:
     def __init__(self, kind, start, end, parts=(), text="", names=()):
         self.kind, self.start, self.end, self.parts, self.text, self.names = kind, start, end, list(parts), text, list(names)
@@ -132,6 +132,8 @@ class Reader:
         if token.text in STOP | OPERATOR:
             raise Unreadable(f"`{token.text}` begins nothing")
         kind = "number" if token.text.isdigit() else "field" if token.text.startswith(".") else "name"
+        if kind == "name" and self.at < len(self.tokens) and self.tokens[self.at].start == token.end and self.peek().startswith("."):
+            return Node(kind, token.start, self.take().end, text=token.text + self.tokens[self.at - 1].text)  # a name with its file's
         return Node(kind, token.start, token.end, text=token.text)
 
 
@@ -141,7 +143,7 @@ def grouped(operands, operators):
         if cuts:
             edges = [-1] + cuts + [len(operators)]
             parts = [grouped(operands[a + 1 : b + 1], operators[a + 1 : b]) for a, b in zip(edges, edges[1:])]
-            return Node("chain", parts[0].start, parts[-1].end, parts, operators[cuts[0]])
+            return Node("chain", parts[0].start, parts[-1].end, parts, operators[cuts[0]], [operators[k] for k in cuts])
     return operands[0]
 
 
@@ -172,8 +174,8 @@ class Definition:
 
 
 class File:
-    def __init__(self, path):
-        self.path, self.crate, self.text = path, path.split("/")[0], (CRATES / path).read_text()
+    def __init__(self, path, text=None):
+        self.path, self.crate, self.text = path, path.split("/")[0], text or (CRATES / path).read_text()
         self.definitions = {}
         uses = list(re.finditer(r"^use (\S+)\.\{([^}]*)\}$", self.text, re.M))
         self.imports = {name: m[1] for m in uses for name in m[2].split(", ")}

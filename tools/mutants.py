@@ -1,8 +1,9 @@
 #!/usr/bin/env -S python3 -B
 # Measures how well the lists of cases pin the definitions: makes wrong definitions from specs/, one change each, tries each against
-# the lists alone, with no code and no law beside them, and prints those that every list accepts. tools/mutants.txt names the changes
-# that make nothing wrong.
+# the lists alone, with no code and no law beside them, and prints those that every list accepts. Each is computed here first; what this
+# does not refuse, and tools/mutants.txt does not name as a change that makes nothing wrong, goes to the prover.
 import argparse
+import multiprocessing
 import os
 import queue
 import re
@@ -14,6 +15,7 @@ import tempfile
 import threading
 from pathlib import Path
 
+from computing import Cases
 from definitions import CRATES, DECLARED, DEFINING, ROOT, Definition, Specs, Unreadable
 
 EQUIVALENT = ROOT / "tools" / "mutants.txt"
@@ -407,6 +409,32 @@ class Trial:
                 print(f"{len(self.verdicts):,} of {len(self.mutants):,} tried", file=sys.stderr, flush=True)
 
 
+# ---- Computing mutants before they are proved
+
+def set_up():
+    global cases
+    cases = Cases()
+
+
+def is_refused(mutant):
+    return cases.refuse(mutant.file.path, mutant.definition.name, mutant.text)
+
+
+# those that computing refuses
+def computed(mutants, jobs):
+    set_up()
+    if not cases.hold():
+        raise SystemExit("mutants: the lists do not hold of the definitions as they are computed here")
+    refused = {}
+    with multiprocessing.get_context("fork").Pool(jobs) as pool:
+        for k, (m, so) in enumerate(zip(mutants, pool.imap(is_refused, mutants, chunksize=BATCH)), 1):
+            if so:
+                refused[m] = REFUSED
+            if k % 100 == 0:
+                print(f"{k:,} of {len(mutants):,} computed", file=sys.stderr, flush=True)
+    return refused
+
+
 # ---- The command
 
 # the entries of tools/mutants.txt: the key of a mutant, and indented below it why nothing is wrong with it
@@ -427,6 +455,7 @@ def main():
     cores = len(os.sched_getaffinity(0))
     parser = argparse.ArgumentParser(description="Tries wrong definitions against the lists of cases, and prints those that no list refuses.")
     parser.add_argument("--jobs", type=int, default=cores, metavar="N", help=f"checks at a time (here {cores} by default, one to a core)")
+    parser.add_argument("--prover", action="store_true", help="try every one by the prover: slow")
     parser.add_argument("--list", action="store_true", help="print the mutants and try none")
     parser.add_argument("names", nargs="*", metavar="NAME", help="only of this file (rules/specs/Rules.antt) or definition (applies-28)")
     asked = parser.parse_args()
@@ -445,9 +474,15 @@ def main():
         return 0
 
     reasons = read_reasons()
-    trial = Trial(chosen, reasons)
-    trial.run(max(1, asked.jobs))
-    verdict_of = {m.key(): verdict for m, verdict in trial.verdicts.items()}
+    jobs = max(1, asked.jobs)
+    verdicts = {} if asked.prover else computed(chosen, jobs)
+    print(f"{len(verdicts):,} of {len(chosen):,} refused by computing", file=sys.stderr, flush=True)
+    if not asked.prover:  # the reason stands for the prover
+        verdicts.update({m: SURVIVING for m in chosen if m not in verdicts and m.key() in reasons})
+    trial = Trial([m for m in chosen if m not in verdicts], reasons)
+    trial.run(jobs)
+    verdicts.update(trial.verdicts)
+    verdict_of = {m.key(): verdict for m, verdict in verdicts.items()}
     stale = {key: "no such mutant" for key in set(reasons) - {m.key() for m in mutants}}
     stale.update({key: verdict_of[key] for key in reasons if verdict_of.get(key) in (REFUSED, ILL_TYPED)})
     for key in sorted(stale):
