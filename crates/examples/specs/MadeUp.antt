@@ -66,7 +66,8 @@ takes roll stand locked valid =
     (table (at 0 50 ∷ at 1 50 ∷ at 2 50 ∷ []))
     (sevens 15 ++ voted ++ sevens 2)
 
--- the base with this heard of round 5: marks of prevotes and of precommits, proposal, its valid round plus one, its name
+-- the base with this heard of round 5: marks of prevotes and of precommits, proposal, its valid round plus one. It refuses the vote, or
+-- takes it, where the table has this name of the proposal
 abbrev pub round-5 : ℕ → ℕ → ℕ → ℕ → State
 round-5 prevoted precommitted proposal valid =
     state four Running voting none none (log (at 0 1 ∷ at 5 prevoted ∷ []) (at 5 precommitted ∷ []) (at 0 2 ∷ at 5 proposal ∷ []) (at 5 valid ∷ []))
@@ -295,7 +296,7 @@ running = kiosk (state four Running (stand 0 Propose true false false false) non
 abbrev pub opens-as : Kiosk → List ℕ → Opening Reply
 opens-as k b = opens b (length b) (sevens 1040) (reply Accepted [] k) (table [])
 
--- the header with the bytes of a bad power; and with all powers 0
+-- the header with all powers 0
 abbrev pub powers-0 : List ℕ
 powers-0 = 4 ∷ 0 ∷ 0 ∷ 0 ∷ 0 ∷ 0 ∷ 0 ∷ 0 ∷ 0 ∷ 5 ∷ 0 ∷ 1 ∷ 0 ∷ 0 ∷ 0 ∷ []
 
