@@ -2,7 +2,7 @@
 use Prim.Native.Nat.{ℕ}
 use mathlib.Core.Path.{_≡_, refl, ap, sym}
 use mathlib.Core.List.{List, map}
-use mathlib.Core.Bool.{Bool, true}
+use mathlib.Core.Bool.{true}
 use Rattle.roll.proofs.Examples.{Weighed, weighs-so}
 use Rattle.journal.specs.Layout.{roomy}
 use Rattle.journal.proofs.Journals.{journal-107}
@@ -14,7 +14,7 @@ use Rattle.listing.proofs.Texts.{Listed, text-107}
 use Rattle.examples.specs.Cases.{All}
 use Rattle.examples.specs.Whole.{Telling}
 use Rattle.examples.specs.Kiosk.{told, opened-by-four, Telling-so}
-use Rattle.examples.specs.Examples.{Room, Examples, Hold, examples}
+use Rattle.examples.specs.Examples.{Room, Hold, examples}
 use Rattle.examples.proofs.Each.{all-so}
 use Rattle.examples.proofs.Kiosk.{called, said, openings-so, the-computed}
 

@@ -2,7 +2,6 @@
 use Prim.Native.Nat.{ℕ}
 use mathlib.Core.Path.{_≡_, refl, ap, sym}
 use mathlib.Core.List.{List}
-use Rattle.flat.specs.declared.FlatReply.{FlatReply}
 use Rattle.listing.specs.Text.{the-text}
 use Rattle.listing.specs.Listing.{the-listing}
 use Rattle.board.specs.declared.FlatPage.{FlatPage}

@@ -13,8 +13,7 @@ use Rattle.rules.specs.declared.Held.{Held}
 use Rattle.rules.specs.declared.Stand.{Stand}
 use Rattle.rules.specs.declared.State.{State}
 use Rattle.rules.specs.declared.Input.{Input}
-use Rattle.rules.specs.declared.Output.{Output}
-use Rattle.rules.proofs.Whole.{Spot, at, spread, table, roll, held, log, stand, state, input, out}
+use Rattle.rules.proofs.Whole.{at, spread, table, roll, held, log, stand, state, input, out}
 use Rattle.rules.proofs.Stories.{four, none, fresh, starts, proposes, prevotes, precommits, timer}
 use Rattle.journal.proofs.Journals.{journal-107}
 use Rattle.answers.specs.declared.Answer.{Answer}
