@@ -18,7 +18,7 @@ need = @command -v $(1) > /dev/null || { $(INSTALL) $(2); }
 
 # What rt compiles is x86-64 code on every machine. Where the machine is another, Debian's cargo builds what links it and an emulator runs it.
 # Cargo reads the linker and the runner under these names, and so do the tests in C.
-# The emulator does `rep movsb` byte by byte: without erms, which offers it, and in one codegen unit the tests take half the time.
+# The emulator does `rep movsb` byte by byte: without erms, which offers it, and in one codegen unit the tests take less time.
 MACHINE := $(shell uname -m)
 X86 := x86_64-unknown-linux-gnu
 BOARD_CARGO := $(CARGO)
