@@ -10,7 +10,7 @@ FUZZ_SECONDS ?= 60
 # Checks at a time: two to a core keep both cores busy while the last of a batch ends.
 export RT_JOBS ?= 4
 
-.PHONY: test rust board told mutants soak fuzz bench demo staticlib tools emulator native
+.PHONY: test rust board told mutants edits soak fuzz bench demo staticlib tools emulator native
 
 INSTALL := apt-get update && apt-get install -y
 # $(call need,COMMAND,PACKAGE)
@@ -30,11 +30,14 @@ export CARGO_TARGET_X86_64_UNKNOWN_LINUX_GNU_RUNNER := $(RUNNER)
 EMULATOR := cargo-web rustc-web libstd-rust-web-dev:amd64 gcc-x86-64-linux-gnu libc6-dev-amd64-cross qemu-user
 endif
 
-# The Rust tests of second/, the proved library among them through its C interface; then the proofs, the must-fail edits and the programs.
-# rt ci removes target/ and with it the library, so it comes last. Its last line is the verdict.
+# The proofs, the must-fail edits and the programs; then the library that firmware links, from the stamps that rt ci leaves, and the Rust tests.
+# The verdict, rt ci's last line, is said again at the very end, and only if all passed. It is kept outside target/, which rt ci removes.
 test: emulator
-	+@$(MAKE) --no-print-directory --output-sync=target -j2 board rust
-	rt ci
+	@mkdir -p .gate
+	@set -o pipefail; tools/in-memory rt ci 2>&1 | tee .gate/ci.log || { echo 'rt ci FAILED'; exit 1; }
+	@echo 'rt ci passed; the library and the Rust tests follow'
+	+@tools/in-memory $(MAKE) --no-print-directory --output-sync=target -j2 board rust || { echo 'the library or the Rust tests FAILED'; exit 1; }
+	@tail -n 1 .gate/ci.log | grep -xE '[0-9]+ passed, 0 failed'
 
 # The Rust tests that need no proved library.
 rust: tools
@@ -57,6 +60,11 @@ mutants:
 	$(call need,python3,python3)
 	@tools/mutants.py
 
+# Edits of inner code, crates/NAME/edits, that the prover must refuse; NAMES="rules kiosk" takes those crates alone, and ALL=1 must-fail/ too.
+edits:
+	$(call need,python3,python3)
+	@tools/in-memory tools/edits $(if $(ALL),--all) $(NAMES)
+
 # The same comparisons over many more calls, longer deliveries and more journals.
 soak: emulator staticlib
 	cd second && $(CARGO) test --release --test deliveries -- --ignored --nocapture
@@ -76,11 +84,20 @@ fuzz: native staticlib
 	  $(FUZZ)/corpus second/fuzz/cases > $(FUZZ)/log 2>&1 || { tail -60 $(FUZZ)/log; exit 1; }
 	@grep -E 'DONE|stat::' $(FUZZ)/log
 
-# The table of docs/BENCH.md; the text around it stays.
-bench: native staticlib
+# The table of docs/BENCH.md; the text around it stays. Where an emulator runs the program, its plugin counts the instructions, and no time is
+# taken. It counts as callgrind does: a `rep`, which erms offers, once for each step.
+ifeq ($(MACHINE),x86_64)
+bench: staticlib
 	$(call need,valgrind,valgrind)
 	cd second && $(CARGO) build --profile measured -p bench
 	$(CARGO_TARGET_DIR)/measured/bench docs/BENCH.md
+else
+COUNT := $(CARGO_TARGET_DIR)/count.so
+bench: emulator staticlib
+	cd second && $(BOARD_CARGO) build --profile measured -p bench
+	gcc -O2 -Wall -Wextra -Werror -fPIC -shared second/bench/count.c -o $(COUNT)
+	SLIP_COUNTER="qemu-x86_64 -cpu max -plugin $(COUNT) -d plugin -D" $(RUNNER) $(CARGO_TARGET_DIR)/$(X86)/measured/bench docs/BENCH.md
+endif
 
 # A journal in 01's layout, of 107 bytes, listed by the proved lister.
 demo: emulator
@@ -103,6 +120,6 @@ emulator: tools
 	@test $(MACHINE) = x86_64 || dpkg -s $(EMULATOR) > /dev/null 2>&1 || \
 	  { dpkg --add-architecture amd64 && $(INSTALL) --no-install-recommends $(EMULATOR); }
 
-# What measures or instruments x86-64 code: a time under an emulator says nothing.
+# What instruments x86-64 code.
 native:
-	@test $(MACHINE) = x86_64 || { echo 'make bench and make fuzz need an x86-64 machine, and this one is $(MACHINE)' >&2; exit 1; }
+	@test $(MACHINE) = x86_64 || { echo 'make fuzz needs an x86-64 machine, and this one is $(MACHINE)' >&2; exit 1; }
