@@ -198,14 +198,14 @@ impl Case {
     }
 }
 
-/// callgrind counts what this calls, and nothing else.
+/// What this calls is counted, by callgrind or in the emulator, and nothing else.
 #[no_mangle]
 #[inline(never)]
 fn slip_measured(run: &mut dyn FnMut()) {
     run();
 }
 
-/// Under valgrind: each case with each engine once.
+/// To be counted: each case with each engine once.
 fn count() {
     for case in cases() {
         for engine in ENGINES {
@@ -215,10 +215,13 @@ fn count() {
     }
 }
 
-/// Instructions a call, for each case and engine in order; one dump of callgrind for each.
-fn instructions(cases: &[Case]) -> Vec<[f64; 2]> {
-    let folder = std::env::temp_dir().join(format!("slip-bench-{}", std::process::id()));
-    std::fs::create_dir_all(&folder).expect("a folder for callgrind");
+/// Where an emulator runs this: its command that counts, after which come a file for the counts and a program.
+fn emulator() -> Option<String> {
+    std::env::var("SLIP_COUNTER").ok()
+}
+
+/// The instructions of each call of slip_measured; one dump of callgrind for each.
+fn by_callgrind(calls: usize, folder: &Path, program: &Path) -> Vec<f64> {
     let out = folder.join("out");
     let status = Command::new("valgrind")
         .args([
@@ -228,27 +231,60 @@ fn instructions(cases: &[Case]) -> Vec<[f64; 2]> {
             "-q",
         ])
         .arg(format!("--callgrind-out-file={}", out.display()))
-        .arg(std::env::current_exe().expect("this program"))
+        .arg(program)
         .arg("count")
         .status()
         .expect("valgrind");
     assert!(status.success(), "valgrind");
-    let mut part = 0;
-    let counts = cases.iter().map(|case| {
-        ENGINES.map(|_| {
-            part += 1;
-            let dump =
-                std::fs::read_to_string(out.with_extension(part.to_string())).expect("a dump");
-            let totals = dump.lines().find_map(|line| line.strip_prefix("totals: "));
-            let total: f64 = totals
-                .and_then(|number| number.trim().parse().ok())
-                .expect("totals");
-            total / case.calls() as f64
-        })
-    });
-    let counts = counts.collect();
-    std::fs::remove_dir_all(folder).expect("the folder");
+    let total = |part: usize| {
+        let dump = std::fs::read_to_string(out.with_extension(part.to_string())).expect("a dump");
+        let totals = dump.lines().find_map(|line| line.strip_prefix("totals: "));
+        totals
+            .and_then(|number| number.trim().parse().ok())
+            .expect("totals")
+    };
+    (1..=calls).map(total).collect()
+}
+
+/// The same, a line for each. How much a copy takes depends on where it lies, and so on what stands on the stack before it: the environment
+/// and the program's name, which are the same here wherever this runs.
+fn by_emulator(counter: &str, folder: &Path, program: &Path) -> Vec<f64> {
+    let out = folder.join("out");
+    let status = Command::new("env")
+        .arg("--ignore-environment")
+        .args(counter.split_whitespace())
+        .arg(&out)
+        .arg(Path::new(".").join(program.file_name().expect("a name")))
+        .arg("count")
+        .current_dir(program.parent().expect("a folder"))
+        .status()
+        .expect("env");
+    assert!(status.success(), "{counter}");
+    let counts = std::fs::read_to_string(out).expect("the counts");
     counts
+        .lines()
+        .map(|line| line.parse().expect("a number"))
+        .collect()
+}
+
+/// Instructions a call, for each case and engine in order.
+fn instructions(cases: &[Case]) -> Vec<[f64; 2]> {
+    let folder = std::env::temp_dir().join(format!("slip-bench-{}", std::process::id()));
+    std::fs::create_dir_all(&folder).expect("a folder for the counts");
+    let program = std::env::current_exe().expect("this program");
+    let calls = ENGINES.len() * cases.len();
+    let counts = match emulator() {
+        Some(counter) => by_emulator(&counter, &folder, &program),
+        None => by_callgrind(calls, &folder, &program),
+    };
+    std::fs::remove_dir_all(folder).expect("the folder");
+    assert_eq!(counts.len(), calls);
+    let mut counts = counts.into_iter();
+    let mut each = |case: &Case| counts.next().expect("a count") / case.calls() as f64;
+    cases
+        .iter()
+        .map(|case| ENGINES.map(|_| each(case)))
+        .collect()
 }
 
 /// The text bytes of an archive, by `size`.
@@ -301,20 +337,45 @@ fn machine() -> String {
     )
 }
 
+/// Cells of the table: what the proved build takes, what fast takes, and the ratio.
+fn beside([board, fast]: [f64; 2]) -> String {
+    format!(" {board:.0} | {fast:.0} | {:.2} |", board / fast)
+}
+
 fn table() -> String {
     let cases = cases();
     let mut large = vec![1; (32 << 20) / 8];
     let counts = instructions(&cases);
-    let mut text = format!("Measured by `make bench` on: {}.\n\n", machine());
+    let timed = emulator().is_none();
+    let mut text = String::new();
     let mut line =
         |words: std::fmt::Arguments| writeln!(text, "{words}").expect("a string takes any text");
+    if timed {
+        line(format_args!(
+            "Measured by `make bench` on: {}.\n",
+            machine()
+        ));
+    } else {
+        line(format_args!("Counted by `make bench` in an emulator of x86-64, without times: those of an emulator say nothing.\n"));
+    }
+    let (times, columns) = if timed {
+        (
+            " ns warm: board | fast | ratio | ns cold: board | fast | ratio |",
+            13,
+        )
+    } else {
+        ("", 7)
+    };
     line(format_args!(
-        "| call | kiosks | round | instructions: board | fast | ratio | ns warm: board | fast | ratio | ns cold: board | fast | ratio | stack: board | fast |"
+        "| call | kiosks | round | instructions: board | fast | ratio |{times} stack: board | fast |"
     ));
-    line(format_args!("|---|{}", "---:|".repeat(13)));
-    for (case, [board, fast]) in cases.iter().zip(counts) {
-        let warm = ENGINES.map(|engine| case.warm(engine));
-        let cold = ENGINES.map(|engine| case.cold(engine, &mut large));
+    line(format_args!("|---|{}", "---:|".repeat(columns)));
+    for (case, counts) in cases.iter().zip(counts) {
+        let mut times = String::new();
+        if timed {
+            times += &beside(ENGINES.map(|engine| case.warm(engine)));
+            times += &beside(ENGINES.map(|engine| case.cold(engine, &mut large)));
+        }
         let stack = ENGINES.map(|engine| case.stack(engine));
         let what = match case.what {
             "put" => format!("put, each of {}", case.calls()),
@@ -325,16 +386,10 @@ fn table() -> String {
             ),
         };
         line(format_args!(
-            "| {what} | {} | {} | {board:.0} | {fast:.0} | {:.2} | {:.0} | {:.0} | {:.2} | {:.0} | {:.0} | {:.2} | {} | {} |",
+            "| {what} | {} | {} |{}{times} {} | {} |",
             case.kiosks,
             case.round,
-            board / fast,
-            warm[0],
-            warm[1],
-            warm[0] / warm[1],
-            cold[0],
-            cold[1],
-            cold[0] / cold[1],
+            beside(counts),
             stack[0],
             stack[1],
         ));
