@@ -53,7 +53,13 @@ enum slip_number {
 
 enum slip_phase { SLIP_FRESH = 0, SLIP_RUNNING = 1, SLIP_SETTLED = 2 };
 enum slip_step { SLIP_PROPOSE = 0, SLIP_PREVOTE = 1, SLIP_PRECOMMIT = 2 };
-enum slip_proposal { SLIP_PROPOSAL_NONE = 0, SLIP_PROPOSAL_BAD = 1, SLIP_PROPOSAL_GOOD = 2 }; /* none heard; with verdict 0; 1 */
+
+/* None heard; one with verdict 0; one with verdict 1, which every greater number says too. */
+enum slip_proposal { SLIP_PROPOSAL_NONE = 0, SLIP_PROPOSAL_BAD = 1, SLIP_PROPOSAL_GOOD = 2 };
+
+/* The numbers that the log has of a round: bit i is set where the prevote, or the precommit, of seat i is heard; slip_proposal; the
+ * proposal's valid round plus one. */
+enum slip_heard { SLIP_PREVOTES = 0, SLIP_PRECOMMITS = 1, SLIP_THE_PROPOSAL = 2, SLIP_VALID = 3 };
 
 enum slip_input_kind {
     SLIP_IN_START = 1, SLIP_IN_PROPOSAL = 2, SLIP_IN_PREVOTE = 3, SLIP_IN_PRECOMMIT = 4,
@@ -86,10 +92,7 @@ struct slip_kiosk {
     uint8_t locked_next;    /* the locked sheet's round plus one, 0: none */
     uint8_t valid_next;     /* the valid sheet's round plus one, 0: none */
     /* The log: what is heard of each round, names aside (the table has those). */
-    uint32_t prevotes[SLIP_ROUNDS];   /* bit i: the prevote of seat i is heard */
-    uint32_t precommits[SLIP_ROUNDS]; /* bit i: the precommit of seat i is heard */
-    uint8_t proposals[SLIP_ROUNDS];   /* slip_proposal; another is refusal 1 */
-    uint8_t valids[SLIP_ROUNDS];      /* the proposal's valid round plus one */
+    uint32_t log[SLIP_ROUNDS][4]; /* of each round those of slip_heard */
 };
 
 struct slip_input {
@@ -151,12 +154,13 @@ struct slip_part slip_last(struct slip_kiosk kiosk, const uint8_t *journal, size
 struct slip_page slip_list(const uint8_t *journal, size_t count, uint8_t *text, size_t room);
 
 /* For a caller to see that its compiler lays the fields as the library does. Fields are numbered from 0 in the order of the structs
- * above; a field that is an array takes an index too, which is not looked at for the others. */
+ * above; a field that is an array takes an index too, which is not looked at for the others. The log's is four times the round plus
+ * slip_heard. */
 enum slip_kiosk_field {
     SLIP_F_KIOSKS, SLIP_F_OWN, SLIP_F_USED, SLIP_F_LAST, SLIP_F_LOCKED_NAME, SLIP_F_VALID_NAME, SLIP_F_HEIGHT, SLIP_F_POWERS,
     SLIP_F_PHASE, SLIP_F_SETTLED, SLIP_F_ROUND, SLIP_F_STEP, SLIP_F_ASKED_PROPOSE, SLIP_F_ASKED_PREVOTE, SLIP_F_ASKED_PRECOMMIT,
     SLIP_F_BACKED, SLIP_F_LOCKED_NEXT, SLIP_F_VALID_NEXT,
-    SLIP_F_PREVOTES, SLIP_F_PRECOMMITS, SLIP_F_PROPOSALS, SLIP_F_VALIDS
+    SLIP_F_LOG
 };
 
 /* The number in a field; 0 for a field or an index that there is not. */

@@ -8,7 +8,7 @@ ROOT = Path(__file__).resolve().parent.parent
 CRATES = ROOT / "crates"
 
 # The crates that hold the definitions, and in them what a public promise is made of: these and what they mention are changed.
-DEFINING = "words roll answers rules journal refusals kiosk listing flat board".split()
+DEFINING = "words roll rules journal refusals kiosk listing board".split()
 ROOTS = {
     "kiosk": "Says Opens Makes create put open-journal last-group",
     "listing": "Prints printed listing",
@@ -186,16 +186,34 @@ class File:
 
 
 DECLARED = re.compile(r"^(?:#\[[^\n]*\]\n)?pub (struct|enum) (\w+)(?: \{\n(.*?)^\}|\(([^\n]*)\);)", re.M | re.S)
+NAMED = re.compile(r"^pub type (\w+) = ([^;\n]*; \d+\]);", re.M)
+
+
+# the limits that arrays are declared by, as `Type::NAME`
+def limits():
+    found = {}
+    for path in (p for crate in DEFINING for p in sorted((CRATES / crate / "src").glob("*.rt"))):
+        for owner, block in re.findall(r"^impl (\w+) \{\n(.*?)^\}", path.read_text(), re.M | re.S):
+            found.update({f"{owner}::{name}": number for name, number in re.findall(r"^    pub const (\w+): usize = (\d+);", block, re.M)})
+    return found
+
+
+# what a crate's code declares, with no code: its uses, its structs and enums and its names for arrays, with each limit as its number
+def declarations(crate):
+    code, known = (CRATES / crate / "src" / "lib.rt").read_text(), limits()
+    types = [m.group() for m in sorted([*DECLARED.finditer(code), *NAMED.finditer(code)], key=lambda m: m.start())]
+    text = "\n".join(re.findall(r"^use [^\n]*", code, re.M) + types) + "\n"
+    return re.sub(r"; (\w+::\w+)\]", lambda m: f"; {known[m[1]]}]", text)
 
 
 # All definitions. Structs, plain records and enums go by `crate.Name`: `fields` has each field's type as antt sees it, `widths` those
-# of a long struct as the code declares them, `variants` the types that each variant carries.
+# of a long struct as the code declares them, `variants` the types that each variant carries, `arrays` the type that is named.
 class Specs:
     def __init__(self):
-        self.files, self.fields, self.widths, self.variants = {}, {}, {}, {}
+        self.files, self.fields, self.widths, self.variants, self.arrays = {}, {}, {}, {}, {}
         for crate in DEFINING:
-            self.read_types(crate, (CRATES / crate / "src" / "lib.rt").read_text())
-            for name in re.findall(r"^pub mod (\w+)$", (CRATES / crate / "specs" / "Lib.antt").read_text(), re.M):
+            self.read_types(crate, declarations(crate))
+            for name in re.findall(r"^pub mod ([A-Z]\w*)$", (CRATES / crate / "specs" / "Lib.antt").read_text(), re.M):
                 file = File(f"{crate}/specs/{name}.antt")
                 self.files[file.path] = file
                 self.read_items(file, tokens_of(file.text), 0)
@@ -203,12 +221,16 @@ class Specs:
     def read_types(self, crate, text):
         names = {name: f"{other}.{name}" for other, name in re.findall(r"^use (\w+)::(\w+);", text, re.M)}
         names.update({m[2]: f"{crate}.{m[2]}" for m in DECLARED.finditer(text)})
+        names.update({m[1]: f"{crate}.{m[1]}" for m in NAMED.finditer(text)})
 
         def seen(declared):
             array = re.fullmatch(r"\[(\w+); \d+\]", declared)
             number = re.fullmatch(r"u\d+|usize", declared)
-            return f"List {seen(array[1])}" if array else "ℕ" if number else "Bool" if declared == "bool" else names[declared]
+            if array or number or declared == "bool":
+                return f"List {seen(array[1])}" if array else "ℕ" if number else "Bool"
+            return self.arrays.get(names[declared], names[declared])
 
+        self.arrays.update({names[m[1]]: seen(m[2]) for m in NAMED.finditer(text)})
         for kind, name, block, tuple_ in (m.groups() for m in DECLARED.finditer(text)):
             body = re.sub(r"//[^\n]*", "", block or tuple_)
             if kind == "enum":

@@ -16,7 +16,7 @@ import threading
 from pathlib import Path
 
 from computing import Cases
-from definitions import CRATES, DECLARED, DEFINING, ROOT, Definition, Specs, Unreadable
+from definitions import CRATES, DEFINING, ROOT, Definition, Specs, Unreadable, declarations
 
 EQUIVALENT = ROOT / "tools" / "mutants.txt"
 
@@ -246,7 +246,20 @@ class Changes:
         if not (a.is_call("eqb") and b.is_call("eqb")):
             return False
         (_, x, n), (_, y, m) = a.parts, b.parts
-        return self.shown(x) == self.shown(y) and n.kind == m.kind == "number" and n.text != m.text
+        n, m = self.numeral(n), self.numeral(m)
+        return self.shown(x) == self.shown(y) and None not in (n, m) and n != m
+
+    # the number that stands there as a numeral or by a name for one, as `vote-in Prevotes`; else None
+    def numeral(self, node):
+        if node.kind == "paren":
+            return self.numeral(node.parts[0])
+        if node.kind == "number":
+            return int(node.text)
+        name, *given = [part.text for part in node.parts or [node]]
+        found = self.specs.resolve(self.file, name)
+        for left, right in found.bodies if isinstance(found, Definition) and found.kind == "function" else ():
+            if [part.text for part in left.parts[1:]] == given:
+                return int(right.text) if right.kind == "number" else None
 
     def record(self, node, scope):
         for fields in self.specs.owners(node.names[0]).values():
@@ -283,10 +296,8 @@ class Scratch:
         for crate in [*DEFINING, LISTS_CRATE]:
             here, there = CRATES / crate, self.crates / crate
             shutil.copytree(here / "specs", there / "specs")
-            code = (here / "src" / "lib.rt").read_text()
-            types = re.findall(r"^use [^\n]*", code, re.M) + [m.group() for m in DECLARED.finditer(code)]
             (there / "src").mkdir()
-            (there / "src" / "lib.rt").write_text("\n".join(types) + "\n")
+            (there / "src" / "lib.rt").write_text(declarations(crate))
             proofs = USED.get(crate, []) + lists.get(crate, [])
             if proofs:
                 (there / "proofs").mkdir()

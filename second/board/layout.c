@@ -24,9 +24,8 @@ int main(void)
     k.backed = 8, k.locked_next = 9, k.valid_next = 10;
     for (size_t i = 0; i < SLIP_KIOSKS; i++)
         k.powers[i] = (uint16_t)(60000 + i);
-    for (size_t i = 0; i < SLIP_ROUNDS; i++)
-        k.prevotes[i] = (uint32_t)(4000000000u + i), k.precommits[i] = (uint32_t)(4100000000u + i), k.proposals[i] = (uint8_t)(20 + i),
-        k.valids[i] = (uint8_t)(40 + i);
+    for (size_t i = 0; i < 4 * SLIP_ROUNDS; i++)
+        k.log[i / 4][i % 4] = (uint32_t)(4000000000u + i);
 
     const uint64_t single[] = {SIZE_MAX - 1, SIZE_MAX - 2, SIZE_MAX - 3, SIZE_MAX - 4, UINT64_MAX - 5, UINT64_MAX - 6, UINT32_MAX - 7,
                                0, 1, 2, 3, 4, 5, 6, 7, 8, 9, 10};
@@ -35,12 +34,8 @@ int main(void)
             check("field", field, slip_kiosk_number(k, field, 0), single[field]);
     for (size_t i = 0; i < SLIP_KIOSKS; i++)
         check("power", i, slip_kiosk_number(k, SLIP_F_POWERS, i), 60000 + i);
-    for (size_t i = 0; i < SLIP_ROUNDS; i++) {
-        check("prevotes", i, slip_kiosk_number(k, SLIP_F_PREVOTES, i), 4000000000u + i);
-        check("precommits", i, slip_kiosk_number(k, SLIP_F_PRECOMMITS, i), 4100000000u + i);
-        check("proposals", i, slip_kiosk_number(k, SLIP_F_PROPOSALS, i), 20 + i);
-        check("valids", i, slip_kiosk_number(k, SLIP_F_VALIDS, i), 40 + i);
-    }
+    for (size_t i = 0; i < 4 * SLIP_ROUNDS; i++)
+        check("log", i, slip_kiosk_number(k, SLIP_F_LOG, i), 4000000000u + i);
 
     struct slip_input input = {UINT64_MAX - 1, UINT64_MAX - 2, UINT32_MAX - 3, 4, 5, 6, 7, 8};
     const uint64_t numbers[] = {UINT64_MAX - 1, UINT64_MAX - 2, UINT32_MAX - 3, 4, 5, 6, 7, 8};
@@ -60,8 +55,8 @@ int main(void)
     check("first and last of the state", 0, reply.kiosk.kiosks, SIZE_MAX - 1);
     check("first and last of the state", 1, reply.kiosk.powers[31], 60031);
     check("first and last of the state", 2, reply.kiosk.valid_next, 10);
-    check("first and last of the state", 3, reply.kiosk.prevotes[0], 4000000000u);
-    check("first and last of the state", 4, reply.kiosk.valids[15], 55);
+    check("first and last of the state", 3, reply.kiosk.log[0][0], 4000000000u);
+    check("first and last of the state", 4, reply.kiosk.log[15][3], 4000000063u);
     if (wrong == 0)
         printf("%d numbers, all where the library has them\n", read_right);
     return wrong != 0;

@@ -53,11 +53,11 @@ impl Kiosk {
     pub fn described(state: &State, table: &[u64]) -> Kiosk {
         let mut log = Log::default();
         for (round, heard) in (0u8..).zip(&state.rounds) {
-            if heard.proposal {
+            if heard.proposal != 0 {
                 let proposal = Proposal {
                     name: table[proposal_place(round)],
-                    valid: heard.valid.checked_sub(1),
-                    good: heard.good,
+                    valid: heard.valid.checked_sub(1).map(below_its_own),
+                    heard: heard.proposal,
                 };
                 log.keep_proposal(round, proposal);
             }
@@ -108,9 +108,8 @@ impl Kiosk {
         for (&round, &proposal) in &self.log.proposals {
             if before.log.proposal(round) != Some(proposal) {
                 let heard = &mut state.rounds[usize::from(round)];
-                heard.proposal = true;
-                heard.good = proposal.good;
-                heard.valid = proposal.valid.map_or(0, |vr| vr + 1);
+                heard.proposal = proposal.heard;
+                heard.valid = proposal.valid.map_or(0, |vr| u32::from(vr) + 1);
                 table[proposal_place(round)] = proposal.name;
             }
         }
@@ -141,6 +140,11 @@ fn vote_place(vote: Vote, round: u8, seat: usize) -> usize {
         Vote::Precommit => 33,
     };
     proposal_place(round) + first + seat
+}
+
+/// The valid round of a proposal that refusal 1 lets through.
+fn below_its_own(vr: u32) -> u8 {
+    u8::try_from(vr).expect("a valid round below its proposal's")
 }
 
 fn sheet(held: Held) -> Option<Sheet> {

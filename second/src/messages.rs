@@ -18,8 +18,20 @@ pub struct Proposal {
     pub name: u64,
     /// 003's vr, none for -1.
     pub valid: Option<u8>,
-    /// The sheet checker's verdict: 003's valid(v).
-    pub good: bool,
+    /// What the state says of it: never 0.
+    pub heard: u32,
+}
+
+/// What is said of a proposal with verdict 0, and of one with verdict 1.
+pub const HEARD_BAD: u32 = 1;
+pub const HEARD_GOOD: u32 = 2;
+
+impl Proposal {
+    /// The sheet checker's verdict, 003's valid(v): a number that is not the
+    /// bad one's is a good one's.
+    pub fn good(&self) -> bool {
+        self.heard != HEARD_BAD
+    }
 }
 
 /// "The first proposal of a round is kept, and the first vote of each sender,

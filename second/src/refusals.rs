@@ -64,10 +64,10 @@ fn held_allowed(held: Held, round: u8) -> bool {
 /// "A heard proposal with name 0 or a valid round ... not below its own"; below
 /// -1 cannot be written.
 fn proposals_allowed(state: &State, table: &[u64]) -> bool {
-    (0u8..)
+    (0u32..)
         .zip(&state.rounds)
-        .filter(|(_, heard)| heard.proposal)
-        .all(|(round, heard)| heard.valid <= round && table[65 * usize::from(round)] != 0)
+        .filter(|(_, heard)| heard.proposal != 0)
+        .all(|(round, heard)| heard.valid <= round && table[65 * round as usize] != 0)
 }
 
 /// Not started: nothing heard, every table place 0, round 0, nothing held.
@@ -75,7 +75,7 @@ fn untouched(state: &State, table: &[u64]) -> bool {
     let silent = state
         .rounds
         .iter()
-        .all(|heard| !heard.proposal && heard.prevotes == 0 && heard.precommits == 0);
+        .all(|heard| heard.proposal == 0 && heard.prevotes == 0 && heard.precommits == 0);
     silent
         && table.iter().all(|&name| name == 0)
         && state.round == 0

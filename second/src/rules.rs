@@ -2,7 +2,7 @@
 //! here as a function of what is heard, and its `do` part in `fire`.
 
 use crate::kiosk::{Kiosk, Sheet};
-use crate::messages::{Proposal, Vote, NIL};
+use crate::messages::{Proposal, Vote, HEARD_BAD, HEARD_GOOD, NIL};
 use crate::records::{input, output, Input, Output};
 use crate::state::{Phase, Step};
 
@@ -85,7 +85,7 @@ fn upon_36(kiosk: &Kiosk) -> Option<Rule> {
     let first_time = !kiosk.backed;
     let holds = first_time
         && kiosk.step >= Step::Prevote
-        && proposal.good
+        && proposal.good()
         && kiosk.large(&log.voters_for(Vote::Prevote, round, proposal.name));
     holds.then_some(Rule::L36 { proposal })
 }
@@ -110,7 +110,7 @@ fn upon_49(kiosk: &Kiosk) -> Option<Rule> {
     let log = &kiosk.log;
     for (&round, &proposal) in &log.proposals {
         let precommitters = log.voters_for(Vote::Precommit, round, proposal.name);
-        if proposal.good && kiosk.large(&precommitters) {
+        if proposal.good() && kiosk.large(&precommitters) {
             return Some(Rule::L49 { round, proposal });
         }
     }
@@ -174,7 +174,10 @@ impl Call<'_> {
                 let proposal = Proposal {
                     name: input.name,
                     valid: input.valid.checked_sub(1),
-                    good: input.verdict == 1,
+                    heard: match input.verdict {
+                        1 => HEARD_GOOD,
+                        _ => HEARD_BAD,
+                    },
                 };
                 log.keep_proposal(input.round, proposal);
             }
@@ -194,7 +197,7 @@ impl Call<'_> {
             Rule::L22 { proposal } => {
                 let locked = self.kiosk.locked;
                 let free = locked.is_none_or(|lock| lock.name == proposal.name);
-                self.prevote(if proposal.good && free {
+                self.prevote(if proposal.good() && free {
                     proposal.name
                 } else {
                     NIL
@@ -204,7 +207,7 @@ impl Call<'_> {
             Rule::L28 { proposal, vr } => {
                 let locked = self.kiosk.locked;
                 let free = locked.is_none_or(|lock| lock.round <= vr || lock.name == proposal.name);
-                self.prevote(if proposal.good && free {
+                self.prevote(if proposal.good() && free {
                     proposal.name
                 } else {
                     NIL
@@ -270,7 +273,7 @@ impl Call<'_> {
         let proposal = Proposal {
             name,
             valid,
-            good: true,
+            heard: HEARD_GOOD,
         };
         self.kiosk.log.keep_proposal(round, proposal);
         self.outputs.push(Output {
@@ -348,7 +351,7 @@ mod tests {
             let proposal = Proposal {
                 name: 50 + u64::from(round),
                 valid: None,
-                good: round != 2,
+                heard: if round == 2 { HEARD_BAD } else { HEARD_GOOD },
             };
             kiosk.log.keep_proposal(round, proposal);
             for sender in 1..4 {

@@ -37,10 +37,11 @@ pub struct Held {
 /// What is heard of one round; the names are in the table.
 #[derive(Clone, Copy, PartialEq, Eq, Debug)]
 pub struct Heard {
-    pub proposal: bool,
-    pub good: bool,
+    /// 0 for none heard, 1 for one with verdict 0; any other for one with
+    /// verdict 1, which calls write as 2.
+    pub proposal: u32,
     /// The proposal's valid round plus one.
-    pub valid: u8,
+    pub valid: u32,
     /// Bit i: the prevote of seat i is heard.
     pub prevotes: u32,
     /// Bit i: the precommit of seat i is heard.
@@ -80,8 +81,7 @@ impl State {
     pub fn unopened() -> State {
         let none = Held { next: 0, name: 0 };
         let silent = Heard {
-            proposal: false,
-            good: false,
+            proposal: 0,
             valid: 0,
             prevotes: 0,
             precommits: 0,

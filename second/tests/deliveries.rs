@@ -424,13 +424,11 @@ fn check_changes(before: &Bench, after: &Bench, input: &Input) {
             }
         }
         if input.kind == 2 && here && !(entered(r) && before.state.round != after.state.round) {
-            assert!(is.proposal && after.table[65 * r] == input.name);
-            assert_eq!((is.valid, is.good), (input.valid, input.verdict == 1));
+            assert_eq!(after.table[65 * r], input.name);
+            assert_eq!(is.proposal, u32::from(input.verdict) + 1);
+            assert_eq!(is.valid, u32::from(input.valid));
         } else if !entered(r) {
-            assert_eq!(
-                (was.proposal, was.valid, was.good),
-                (is.proposal, is.valid, is.good)
-            );
+            assert_eq!((was.proposal, was.valid), (is.proposal, is.valid));
             assert_eq!(before.table[65 * r], after.table[65 * r]);
         }
     }

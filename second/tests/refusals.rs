@@ -160,20 +160,25 @@ fn one_locked_and_valid_round() {
 
 #[test]
 fn one_heard_proposal() {
-    let heard = |proposal: bool, name: u64, valid: u8| {
+    let heard = |proposal: u32, name: u64, valid: u32| {
         changed(|b| {
             b.state.rounds[2].proposal = proposal;
             b.state.rounds[2].valid = valid;
             b.table[65 * 2] = name;
         })
     };
-    assert_eq!(heard(true, 7, 0), 0);
-    assert_eq!(heard(true, 0, 0), 1);
-    assert_eq!(heard(true, 7, 2), 0);
-    assert_eq!(heard(true, 7, 3), 1);
-    assert_eq!(heard(true, 7, 255), 1);
+    for proposal in [1, 2, 3, 255, 256, 1 << 31, u32::MAX] {
+        assert_eq!(heard(proposal, 7, 0), 0);
+        assert_eq!(heard(proposal, 0, 0), 1);
+        assert_eq!(heard(proposal, 7, 2), 0);
+        for valid in [3, 255, 256, 257, 1 << 31, u32::MAX] {
+            assert_eq!(heard(proposal, 7, valid), 1);
+        }
+    }
     // What is not heard may hold anything.
-    assert_eq!(heard(false, 0, 255), 0);
+    for valid in [3, 255, 256, 1 << 31, u32::MAX] {
+        assert_eq!(heard(0, 0, valid), 0);
+    }
 }
 
 #[test]
@@ -193,10 +198,9 @@ fn one_not_started_yet() {
     let held = Held { next: 1, name: 5 };
     assert_eq!(fresh(&|b| b.state.locked = held), 1);
     assert_eq!(fresh(&|b| b.state.valid = held), 1);
-    let mut bench = Bench::four();
-    bench.state.rounds[4].proposal = true;
-    bench.table[65 * 4] = 7;
-    assert_eq!(number(&bench, &start(1, 0)), 1);
+    for proposal in [1, 2, 3, 256, 1 << 31, u32::MAX] {
+        assert_eq!(fresh(&|b| b.state.rounds[4].proposal = proposal), 1);
+    }
 }
 
 /// Nothing but what the list names is asked, and the junk stays.
@@ -210,13 +214,11 @@ fn one_asks_nothing_of_junk() {
     bench.state.asked_prevote = true;
     bench.state.asked_precommit = true;
     bench.state.backed = true;
-    bench.state.rounds[9].good = true;
-    bench.state.rounds[9].valid = 200;
+    bench.state.rounds[9].valid = 4_000_000_000;
     assert_eq!(bench.outputs(&start(1, 0)), plain.outputs(&start(1, 0)));
     let mut expected = plain.state.clone();
     expected.powers[4..].fill(u16::MAX);
-    expected.rounds[9].good = true;
-    expected.rounds[9].valid = 200;
+    expected.rounds[9].valid = 4_000_000_000;
     assert_eq!(bench.state, expected);
     // Once started, unheard places of the table may hold junk as well.
     let mut bench = running();
@@ -242,9 +244,8 @@ fn hear(b: &mut Bench, prevote: bool, round: usize, seat: usize, name: u64) {
     }
 }
 
-fn hear_proposal(b: &mut Bench, round: usize, name: u64, valid: u8) {
-    b.state.rounds[round].proposal = true;
-    b.state.rounds[round].good = true;
+fn hear_proposal(b: &mut Bench, round: usize, name: u64, valid: u32) {
+    b.state.rounds[round].proposal = 2;
     b.state.rounds[round].valid = valid;
     b.table[65 * round] = name;
 }
@@ -295,7 +296,7 @@ fn one_rule_34_already_applies() {
 
 #[test]
 fn one_rule_36_already_applies() {
-    let with = |backed: bool, good: bool, step: Step| {
+    let with = |backed: bool, proposal: u32, step: Step| {
         changed(|b| {
             b.state.step = step;
             b.state.asked_prevote = true;
@@ -303,17 +304,19 @@ fn one_rule_36_already_applies() {
             // A valid round that no prevotes back keeps 28 away at step propose.
             b.state.round = 1;
             hear_proposal(b, 1, 50, 1);
-            b.state.rounds[1].good = good;
+            b.state.rounds[1].proposal = proposal;
             for seat in 0..3 {
                 hear(b, true, 1, seat, 50);
             }
         })
     };
-    assert_eq!(with(false, true, Step::Prevote), 1);
-    assert_eq!(with(false, true, Step::Precommit), 1);
-    assert_eq!(with(true, true, Step::Prevote), 0);
-    assert_eq!(with(false, false, Step::Prevote), 0);
-    assert_eq!(with(false, true, Step::Propose), 0);
+    for good in [2, 3, 256, u32::MAX] {
+        assert_eq!(with(false, good, Step::Prevote), 1);
+        assert_eq!(with(false, good, Step::Precommit), 1);
+        assert_eq!(with(true, good, Step::Prevote), 0);
+        assert_eq!(with(false, good, Step::Propose), 0);
+    }
+    assert_eq!(with(false, 1, Step::Prevote), 0);
 }
 
 #[test]
@@ -352,22 +355,24 @@ fn one_rule_47_already_applies() {
 
 #[test]
 fn one_rule_49_already_applies() {
-    let with = |good: bool, third: u64, phase: Phase| {
+    let with = |proposal: u32, third: u64, phase: Phase| {
         changed(|b| {
             b.state.phase = phase;
             b.state.round = 5;
             hear_proposal(b, 2, 50, 0);
-            b.state.rounds[2].good = good;
+            b.state.rounds[2].proposal = proposal;
             for (seat, name) in [(0, 50), (1, 50), (2, third)] {
                 hear(b, false, 2, seat, name);
             }
         })
     };
-    assert_eq!(with(true, 50, Phase::Running), 1);
-    assert_eq!(with(false, 50, Phase::Running), 0);
-    assert_eq!(with(true, 51, Phase::Running), 0);
-    // Where it has settled no rule is looked at.
-    assert_eq!(with(true, 50, Phase::Settled(2)), 2);
+    for good in [2, 3, 257, 1 << 31] {
+        assert_eq!(with(good, 50, Phase::Running), 1);
+        assert_eq!(with(good, 51, Phase::Running), 0);
+        // Where it has settled no rule is looked at.
+        assert_eq!(with(good, 50, Phase::Settled(2)), 2);
+    }
+    assert_eq!(with(1, 50, Phase::Running), 0);
 }
 
 #[test]

@@ -232,7 +232,7 @@ fn a_proposer_without_a_sheet_asks() {
         [out(PROPOSAL, 0, 9), out(PREVOTE, 0, 9)]
     );
     assert!(!bench.state.asked_propose);
-    assert!(bench.state.rounds[0].good);
+    assert_eq!(bench.state.rounds[0].proposal, 2);
 }
 
 /// Own messages go "over anything a made-up state holds there".
@@ -241,7 +241,7 @@ fn own_messages_overwrite() {
     let mut bench = Bench::four();
     bench.outputs(&start(1, 0));
     // Kiosk 0 proposes in round 3.
-    bench.state.rounds[3].proposal = true;
+    bench.state.rounds[3].proposal = 1;
     bench.state.rounds[3].valid = 2;
     bench.table[65 * 3] = 77;
     bench.state.rounds[3].prevotes = 1;
@@ -254,14 +254,55 @@ fn own_messages_overwrite() {
     assert_eq!(reply.outputs, [out(PROPOSAL, 3, 9), out(PREVOTE, 3, 9)]);
     assert_eq!(fired, [55, 22]);
     let heard = Heard {
-        proposal: true,
-        good: true,
+        proposal: 2,
         valid: 0,
         prevotes: 0b101,
         precommits: 0,
     };
     assert_eq!(bench.state.rounds[3], heard);
     assert_eq!(bench.table[65 * 3..65 * 3 + 4], [9, 9, 0, 77]);
+}
+
+/// Of a proposal any number over 2 says what 2 does, and stays where nothing is
+/// written over it.
+#[test]
+fn greater_numbers_are_good() {
+    for proposal in [2, 3, 255, 256, 4_000_000_000, u32::MAX] {
+        let mut bench = Bench::four();
+        bench.outputs(&start(1, 0));
+        // Of round 2, by kiosk 3.
+        bench.state.rounds[2].proposal = proposal;
+        bench.table[65 * 2] = 50;
+        let (reply, fired) = bench.put_traced(&prevote(1, 1, 2, 50));
+        assert_eq!(reply.outputs, [out(ASK_PROPOSE, 2, 0), out(PREVOTE, 2, 50)]);
+        assert_eq!(fired, [55, 22]);
+        let (_, fired) = bench.put_traced(&prevote(1, 2, 2, 50));
+        assert_eq!(fired, [34, 36]);
+        bench.outputs(&precommit(1, 1, 2, 50));
+        let (_, fired) = bench.put_traced(&precommit(1, 2, 2, 50));
+        assert_eq!(fired, [47, 49]);
+        assert_eq!(bench.state.rounds[2].proposal, proposal);
+    }
+}
+
+/// An own proposal is written as 2 also where the same one is held already.
+#[test]
+fn an_own_proposal_overwrites_its_like() {
+    for proposal in [1, 2, 3, 4_000_000_000] {
+        let mut bench = Bench::four();
+        bench.outputs(&start(1, 0));
+        bench.state.rounds[3].proposal = proposal;
+        bench.table[65 * 3] = 9;
+        let input = Input {
+            offer: 9,
+            ..prevote(1, 2, 3, 77)
+        };
+        assert_eq!(
+            bench.outputs(&input),
+            [out(PROPOSAL, 3, 9), out(PREVOTE, 3, 9)]
+        );
+        assert_eq!(bench.state.rounds[3].proposal, 2);
+    }
 }
 
 /// The prevote timer's precommit, over a precommit that a made-up state holds.

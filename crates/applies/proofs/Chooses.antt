@@ -12,14 +12,14 @@ use Rattle.words.proofs.Choice.{highest-none, and-left, and-right, and-false}
 use Rattle.words.proofs.MarkLaws.{marked-zero}
 use Rattle.roll.specs.Weighing.{some, total-of}
 use Rattle.roll.proofs.Weighing.{power-none}
+use Rattle.rules.specs.declared.Votes.the-variants.{Precommits}
 use Rattle.rules.specs.declared.Heard.{Heard}
 use Rattle.rules.specs.declared.Rule.the-variants.{Nothing, Line49, Line55}
 use Rattle.rules.specs.declared.State.{State}
-use Rattle.rules.specs.State.{silent, good}
-use Rattle.rules.specs.Log.{Desk, desk, told, proposal-place, good-sheets, precommit-power-for, message-power}
+use Rattle.rules.specs.State.{unheard, good}
+use Rattle.rules.specs.Log.{Desk, desk, told, proposal-place, good-sheets, power-for, message-power}
 use Rattle.rules.specs.Doing.{current}
-use Rattle.rules.specs.Rules.{is-large, closing-sheet, closing-round, applies-49, calls, past-calling-round, applies-55}
-use Rattle.applies.specs.Later.{far-rule}
+use Rattle.rules.specs.Rules.{is-large, closing-sheet, closing-round, applies-49, calls, past-calling-round, applies-55, from-49}
 
 sheet-named : (b : Bool) (name : ℕ) → not (eqb (if b then name else 0) 0) ≡ (b && not (eqb name 0))
 sheet-named true name = refl
@@ -34,7 +34,7 @@ module _ (s : State) (t : List ℕ) (r : ℕ) {h : Heard} (e : h ≡ told (s .lo
 
   -- with one, it closes where the precommits for its name, which is not 0, are large
   module _ {name : ℕ} {b : Bool} (is-good : good h ≡ true) (named : name ≡ getD t (proposal-place r) 0)
-      (judged : b ≡ is-large (desk s t) (precommit-power-for (desk s t) r name)) where
+      (judged : b ≡ is-large (desk s t) (power-for Precommits (desk s t) r name)) where
     closing-so : closing-sheet (desk s t) r ≡ (if b then name else 0)
     unfolding closing-sheet good-sheets first-of
     closing-so = rw (← e, is-good, ← named, ← judged)
@@ -45,7 +45,7 @@ module _ (s : State) (t : List ℕ) (r : ℕ) {h : Heard} (e : h ≡ told (s .lo
     pub closes-with : (b && not (eqb name 0)) ≡ true → closing-sheet (desk s t) r ≡ name
     closes-with holds = rw (closing-so, and-left b (not (eqb name 0)) holds)
 
-  no-messages : silent h ≡ true → message-power (desk s t) r ≡ 0
+  no-messages : unheard h ≡ true → message-power (desk s t) r ≡ 0
   unfolding message-power
   no-messages quiet =
       let a = eqb (h .proposal) 0 in
@@ -58,15 +58,15 @@ module _ (s : State) (t : List ℕ) (r : ℕ) {h : Heard} (e : h ≡ told (s .lo
       power-none (s .roll .powers) _ (s .roll .kiosks) (λ i l. rw (← e, p, v, w, marked-zero i))
 
   -- where nothing is heard of it, it does not call
-  pub silent-calls-not : silent h ≡ true → calls (desk s t) r ≡ false
+  pub silent-calls-not : unheard h ≡ true → calls (desk s t) r ≡ false
   unfolding calls
   silent-calls-not quiet = and-false (ltb (current (desk s t)) r) _ (λ l. rw (no-messages quiet) (le-ltb (total-of (s .roll)) 0 (omega arith)))
 
 -- line 55: a round ahead calls where its messages have some power
-pub calls-so : (s : State) (t : List ℕ) (r : ℕ) {power total : ℕ} {b : Bool} → s .stand .round .0 < r → power ≡ message-power (desk s t) r
+pub calls-so : (s : State) (t : List ℕ) (r : ℕ) {power total : ℕ} {b : Bool} → s .progress .stand .round .0 < r → power ≡ message-power (desk s t) r
     → total ≡ total-of (s .roll) → b ≡ some total power → calls (desk s t) r ≡ b
 unfolding calls
-calls-so s t r ahead weighs whole judged = rw (judged, weighs, whole, lt-ltb (s .stand .round .0) r ahead)
+calls-so s t r ahead weighs whole judged = rw (judged, weighs, whole, lt-ltb (s .progress .stand .round .0) r ahead)
 
 -- and no other does
 pub none-calls : (d : Desk) (n : ℕ) → n ≤ current d + 1 → past-highest-below n (λ r. calls d r) ≡ 0
@@ -80,17 +80,17 @@ module _ (s : State) (t : List ℕ) where
   none-closes r none l h = let g : r ≡ 16 = omega arith in rw g at none
 
   pub far-49 : (r : ℕ) {name : ℕ} → closing-round (desk s t) ≡ r → r < 16 → closing-sheet (desk s t) r ≡ name
-      → far-rule (desk s t) ≡ Line49 (record { 0 = r }) name
-  unfolding far-rule applies-49
+      → from-49 (desk s t) ≡ Line49 (record { 0 = r }) name
+  unfolding from-49 applies-49
   far-49 r found low sheet = rw (found, lt-ltb r 16 low, sheet)
 
   pub far-55 : (past : ℕ) → closing-round (desk s t) ≡ 16 → past-calling-round (desk s t) ≡ past → 1 ≤ past
-      → far-rule (desk s t) ≡ Line55 (record { 0 = past - 1 })
-  unfolding far-rule applies-49 applies-55
+      → from-49 (desk s t) ≡ Line55 (record { 0 = past - 1 })
+  unfolding from-49 applies-49 applies-55
   far-55 past none found high =
       let g : pred past ≡ past - 1 = omega arith in
       rw (none, found, le-leb 1 past high, g)
 
-  pub far-none : closing-round (desk s t) ≡ 16 → past-calling-round (desk s t) ≡ 0 → far-rule (desk s t) ≡ Nothing
-  unfolding far-rule applies-49 applies-55
+  pub far-none : closing-round (desk s t) ≡ 16 → past-calling-round (desk s t) ≡ 0 → from-49 (desk s t) ≡ Nothing
+  unfolding from-49 applies-49 applies-55
   far-none none nor = rw (none, nor)

@@ -16,48 +16,39 @@ use Rattle.words.proofs.MarkLaws.{mark-seats, either-seats}
 use Rattle.roll.specs.declared.Roll.{Roll}
 use Rattle.roll.specs.Weighing.{large, power-below, power-of, total-of, proposer}
 use Rattle.roll.proofs.Weighing.{power-ext, large-not}
+use Rattle.rules.specs.declared.Votes.{Votes}
 use Rattle.rules.specs.declared.Heard.{Heard}
 use Rattle.rules.specs.declared.State.{State}
-use Rattle.rules.specs.State.{spoken}
-use Rattle.rules.specs.Log.{Desk, desk, told, proposal-place, prevote-power, prevote-power-for, precommit-power, precommit-power-for, message-power}
+use Rattle.rules.specs.State.{marks-of, spoken}
+use Rattle.rules.specs.Log.{Desk, desk, told, votes-place, power, power-for, message-power}
 
 -- the seat whose turn it is is one that marks have room for
 pub turn-below : (roll : Roll) (r : ℕ) {turn : ℕ} → turn ≡ proposer roll r → 1 ≤ roll .kiosks → roll .kiosks ≤ 32 → turn < 32
 turn-below roll r e some few = omega (arith, mod-lt (roll .height .0 + r) {m = roll .kiosks} some)
 
--- where the prevotes of a round are not large, those for a name are not
-pub few-for : (d : Desk) (r name total : ℕ) → large total (prevote-power d r) ≡ false → large total (prevote-power-for d r name) ≡ false
-unfolding prevote-power prevote-power-for
-few-for d r name total fails = large-not _ _ _ _ total refl fails
+-- where the votes of a round are not large, those for a name are not
+pub few-for : (v : Votes) (d : Desk) (r name total : ℕ) → large total (power v d r) ≡ false → large total (power-for v d r name) ≡ false
+unfolding power power-for
+few-for v d r name total fails = large-not _ _ _ _ total refl fails
 
 -- p is what is weighed of round r, of which h is heard, by the powers ps of n kiosks
-module _ (s : State) (t : List ℕ) (r : ℕ) {h : Heard} (e : h ≡ told (s .log) r) {ps : List ℕ} (w : ps ≡ s .roll .powers) {n : ℕ} (k : n ≡ s .roll .kiosks) {p : ℕ} where
-  pub prevotes-weigh : p ≡ power-below ps (λ i. marked (h .prevotes) i) n → p ≡ prevote-power (desk s t) r
-  unfolding prevote-power
-  prevotes-weigh q = rw (q, w, k, e)
+module _ (v : Votes) (s : State) (t : List ℕ) (r : ℕ) {h : Heard} (e : h ≡ told (s .log) r) {ps : List ℕ} (w : ps ≡ s .roll .powers) {n : ℕ} (k : n ≡ s .roll .kiosks) {p : ℕ} where
+  pub votes-weigh : p ≡ power-below ps (λ i. marked (marks-of v h) i) n → p ≡ power v (desk s t) r
+  unfolding power
+  votes-weigh q = rw (q, w, k, e)
 
-  pub precommits-weigh : p ≡ power-below ps (λ i. marked (h .precommits) i) n → p ≡ precommit-power (desk s t) r
-  unfolding precommit-power
-  precommits-weigh q = rw (q, w, k, e)
+  pub votes-for-weigh : (name : ℕ) {base : ℕ} → base ≡ votes-place v r
+      → p ≡ power-below ps (λ i. marked (marks-of v h) i && eqb (getD t (base + i) 0) name) n → p ≡ power-for v (desk s t) r name
+  unfolding power-for
+  votes-for-weigh name b q = rw (q, b, w, k, e)
 
-  pub prevotes-for-weigh : (name : ℕ) {base : ℕ} → base ≡ proposal-place r + 1
-      → p ≡ power-below ps (λ i. marked (h .prevotes) i && eqb (getD t (base + i) 0) name) n → p ≡ prevote-power-for (desk s t) r name
-  unfolding prevote-power-for
-  prevotes-for-weigh name b q = rw (q, b, w, k, e)
-
--- q is whether some power of round r is large, as the code asks it
-module _ (s : State) (t : List ℕ) (r name : ℕ) {base total : ℕ} {q : Bool} (o : total ≡ total-of (s .roll)) where
-  pub large-prevotes-for : base ≡ proposal-place r + 1
-      → q ≡ large total (power-of (s .roll) (λ i. marked (told (s .log) r .prevotes) i && eqb (getD t (base + i) 0) name))
-      → q ≡ large (total-of (s .roll)) (prevote-power-for (desk s t) r name)
-  unfolding prevote-power-for
-  large-prevotes-for b l = rw (l, b, o)
-
-  pub large-precommits-for : base ≡ proposal-place r + 33
-      → q ≡ large total (power-of (s .roll) (λ i. marked (told (s .log) r .precommits) i && eqb (getD t (base + i) 0) name))
-      → q ≡ large (total-of (s .roll)) (precommit-power-for (desk s t) r name)
-  unfolding precommit-power-for
-  large-precommits-for b l = rw (l, b, o)
+-- q is whether some power of round r, of which h is heard, is large, as the code asks it
+pub large-for : (v : Votes) (s : State) (t : List ℕ) (r name : ℕ) {h : Heard} → h ≡ told (s .log) r → {base total : ℕ} {q : Bool} → total ≡ total-of (s .roll)
+    → base ≡ votes-place v r
+    → q ≡ large total (power-of (s .roll) (λ i. marked (marks-of v h) i && eqb (getD t (base + i) 0) name))
+    → q ≡ large (total-of (s .roll)) (power-for v (desk s t) r name)
+unfolding power-for
+large-for v s t r name e o b l = rw (l, b, o, e)
 
 -- the senders of round r, by their marks: those of its votes, and of its proposal the seat whose turn it is
 module _ (s : State) (t : List ℕ) (r : ℕ) {h : Heard} (e : h ≡ told (s .log) r) {marks turn p : ℕ} (at : turn ≡ proposer (s .roll) r) where

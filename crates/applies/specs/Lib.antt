@@ -1,3 +1,2 @@
 -- What this crate's contracts are written in, beside the rules' definitions.
-pub mod Later
-pub mod Seen
+pub mod contracts

@@ -7,18 +7,22 @@ use roll::weigh::is_large_named;
 use roll::weigh::weigh;
 use roll::weigh::weigh_named;
 use rules::Heard;
+use rules::Log;
+use rules::Progress;
 use rules::Rule;
 use rules::Stand;
+use rules::State;
 use rules::Votes;
+use rules::enums::is_prevote;
+use rules::enums::is_propose;
+use rules::enums::is_rule;
+use rules::enums::is_running;
+use rules::enums::pick;
 use rules::places::heard;
-use rules::places::precommits_place;
-use rules::places::prevotes_place;
+use rules::places::heard_in;
+use rules::places::is_good;
 use rules::places::proposed;
-use rules::tests::is_prevote;
-use rules::tests::is_propose;
-use rules::tests::is_rule;
-use rules::tests::is_running;
-use rules::tests::pick;
+use rules::places::votes_place;
 use words::marks::either;
 use words::marks::with_mark;
 ghost use Prim.Native.Nat.{ℕ, _<_, _≤_};
@@ -31,14 +35,11 @@ ghost use lib.ListN.{length};
 ghost use Rattle.words.specs.Choice.{if_then_else_};
 ghost use Rattle.words.specs.Marks.{mark};
 ghost use Rattle.roll.specs.Weighing.{total-of};
-ghost use Rattle.rules.specs.State.{log-of, state-of, is-propose, is-prevote, spoken, good};
+ghost use Rattle.rules.specs.State.{most-rounds, state-of, is-propose, is-prevote, spoken, good};
 ghost use Rattle.rules.specs.Log.{desk, table-length, told};
-ghost use Rattle.rules.specs.Rules.{is-rule, backed-sheet, applies-44, applies-47, first-rule};
-ghost use Rattle.rules.specs.Ready.{Ready};
-ghost use Rattle.rules.specs.declared.Rule.the-variants.{Line47};
-ghost use Rattle.rules.specs.declared.State as states;
-ghost use Rattle.applies.specs.Later.{far-rule, later-rule};
-ghost use Rattle.applies.specs.Seen.{Seen};
+ghost use Rattle.rules.specs.Rules.{is-rule, backed-sheet, applies-44, applies-47, from-47, from-34, first-rule};
+ghost use Rattle.rules.specs.contracts.Ready.{Ready};
+ghost use Rattle.applies.specs.contracts.Seen.{Wherever};
 
 // Line 22: the round's proposal, with valid round -1.
 fn applies_22(stand: Stand, h: Heard) -> bool
@@ -53,7 +54,7 @@ fn proposed_before(stand: Stand, h: Heard) -> bool
     ensures { λ r. ⌜ r ≡ (is-propose (stand .step) && spoken h && leb 1 (h .valid) && leb (h .valid) (stand .round .0)) ⌝ }
 {
     let step = stand.step;
-    is_propose(step) & (h.proposal != 0) & (1 <= h.valid) & (h.valid <= stand.round.0)
+    is_propose(step) & (h.proposal != 0) & (1 <= h.valid) & (h.valid <= (stand.round.0 as u32))
 }
 
 // Line 34, all but its weighing.
@@ -62,13 +63,6 @@ fn awaits_prevotes(stand: Stand) -> bool
 {
     let step = stand.step;
     is_prevote(step) & !stand.asked.prevote
-}
-
-// Whether a round's proposal is heard and good: no other can be backed, nor close a round.
-fn is_good(proposal: u8) -> bool
-    ensures { λ b. ⌜ b ≡ eqb proposal 2 ⌝ }
-{
-    proposal == 2
 }
 
 // Lines 34, 36 and 44, all but their weighing: whether the round's prevotes can make one of them apply.
@@ -88,8 +82,8 @@ fn sheet_to_back(
     table: &[u64],
     total: Power,
 ) -> u64
-    requires { ⌜ (stand .round .0 < 16) × (kiosks ≤ 32) × (length (now table) ≡ table-length) ⌝ }
-    ensures { λ name. ⌜ ((s : states.State) → Seen s stand h (now (powers .entry)) kiosks (total .0) → name ≡ (if s .stand .backed then 0 else backed-sheet (desk s (now (table .entry))))) ⌝ }
+    requires { ⌜ (stand .round .0 < most-rounds) × (kiosks ≤ 32) × (length (now table) ≡ table-length) ⌝ }
+    ensures { λ name. ⌜ Wherever stand h (now (powers .entry)) kiosks (total .0) (λ s. name ≡ (if s .progress .stand .backed then 0 else backed-sheet (desk s (now (table .entry))))) ⌝ }
 {
     if stand.backed {
         return 0;
@@ -99,7 +93,14 @@ fn sheet_to_back(
     }
     let r = stand.round;
     let name = proposed(table, r);
-    let power = weigh_named(powers, kiosks, h.prevotes, table, prevotes_place(r), name);
+    let power = weigh_named(
+        powers,
+        kiosks,
+        h.prevotes,
+        table,
+        votes_place(Votes::Prevotes, r),
+        name,
+    );
     pick(power.is_large(total), name, 0)
 }
 
@@ -112,8 +113,8 @@ fn applies_44(
     table: &[u64],
     total: Power,
 ) -> bool
-    requires { ⌜ (stand .round .0 < 16) × (kiosks ≤ 32) × (length (now table) ≡ table-length) ⌝ }
-    ensures { λ r. ⌜ ((s : states.State) → Seen s stand h (now (powers .entry)) kiosks (total .0) → r ≡ applies-44 (desk s (now (table .entry)))) ⌝ }
+    requires { ⌜ (stand .round .0 < most-rounds) × (kiosks ≤ 32) × (length (now table) ≡ table-length) ⌝ }
+    ensures { λ r. ⌜ Wherever stand h (now (powers .entry)) kiosks (total .0) (λ s. r ≡ applies-44 (desk s (now (table .entry)))) ⌝ }
 {
     let step = stand.step;
     if !is_prevote(step) {
@@ -124,7 +125,7 @@ fn applies_44(
         kiosks,
         h.prevotes,
         table,
-        prevotes_place(stand.round),
+        votes_place(Votes::Prevotes, stand.round),
         0,
     );
     power.is_large(total)
@@ -139,8 +140,8 @@ fn prevote_rule(
     table: &[u64],
     total: Power,
 ) -> Rule
-    requires { ⌜ (stand .round .0 < 16) × (kiosks ≤ 32) × (length (now table) ≡ table-length) ⌝ }
-    ensures { λ r. ⌜ ((s : states.State) → Seen s stand h (now (powers .entry)) kiosks (total .0) → later-rule (desk s (now (table .entry))) ≡ (if is-rule r then r else if applies-47 (desk s (now (table .entry))) then Line47 else far-rule (desk s (now (table .entry))))) ⌝ }
+    requires { ⌜ (stand .round .0 < most-rounds) × (kiosks ≤ 32) × (length (now table) ≡ table-length) ⌝ }
+    ensures { λ r. ⌜ Wherever stand h (now (powers .entry)) kiosks (total .0) (λ s. let d = desk s (now (table .entry)) in from-34 d ≡ (if is-rule r then r else from-47 d)) ⌝ }
 {
     if !heeds_prevotes(stand, h) {
         return Rule::Nothing;
@@ -164,7 +165,7 @@ fn prevote_rule(
 // Line 47.
 fn applies_47(stand: Stand, h: Heard, powers: &[u16; 32], kiosks: usize, total: Power) -> bool
     requires { ⌜ kiosks ≤ 32 ⌝ }
-    ensures { λ r. ⌜ ((s : states.State) (t : List ℕ) → Seen s stand h (now (powers .entry)) kiosks (total .0) → r ≡ applies-47 (desk s t)) ⌝ }
+    ensures { λ r. ⌜ Wherever stand h (now (powers .entry)) kiosks (total .0) (λ s. (t : List ℕ) → r ≡ applies-47 (desk s t)) ⌝ }
 {
     if stand.asked.precommit {
         return false;
@@ -173,12 +174,12 @@ fn applies_47(stand: Stand, h: Heard, powers: &[u16; 32], kiosks: usize, total: 
 }
 
 // The senders of any message of a round, each marked once: those of its votes, and of its proposal the seat whose turn it is.
-fn senders(prevotes: u32, precommits: u32, proposal: u8, turn: usize) -> u32
+fn senders(h: Heard, turn: usize) -> u32
     requires { ⌜ turn < 32 ⌝ }
-    ensures { λ m. ⌜ m ≡ (if not (eqb proposal 0) then mark (bitOr prevotes precommits) turn else bitOr prevotes precommits) ⌝ }
+    ensures { λ m. ⌜ m ≡ (if spoken h then mark (bitOr (h .prevotes) (h .precommits)) turn else bitOr (h .prevotes) (h .precommits)) ⌝ }
 {
-    let votes = either(prevotes, precommits);
-    if proposal != 0 {
+    let votes = either(h.prevotes, h.precommits);
+    if h.proposal != 0 {
         return with_mark(votes, turn);
     }
     votes
@@ -186,22 +187,12 @@ fn senders(prevotes: u32, precommits: u32, proposal: u8, turn: usize) -> u32
 
 // The rules from 34 on, with h heard of the current round: those of that round, and then 49 and 55, that look at the whole log. Of 49's
 // rounds, from the lowest on, one without a good proposal is passed before anything is weighed; of 55's, from the highest down to the
-// next, a silent one.
-fn later_rule<'a>(
-    votes: Votes,
-    roll: Roll,
-    h: Heard,
-    prevotes: &'a [u32; 16],
-    precommits: &'a [u32; 16],
-    proposals: &'a [u8; 16],
-    valids: &'a [u8; 16],
-    table: &[u64],
-    total: Power,
-) -> Rule
-    requires { ⌜ Ready (state-of roll votes (log-of (now prevotes) (now precommits) (now proposals) (now valids))) (now table) × (total .0 ≡ total-of roll) × (h ≡ told (log-of (now prevotes) (now precommits) (now proposals) (now valids)) (votes .stand .round .0)) ⌝ }
-    ensures { λ r. ⌜ r ≡ later-rule (desk (state-of roll votes (log-of (now (prevotes .entry)) (now (precommits .entry)) (now (proposals .entry)) (now (valids .entry)))) (now (table .entry))) ⌝ }
+// next, one of which nothing is heard.
+fn from_34(progress: Progress, roll: Roll, h: Heard, log: &Log, table: &[u64], total: Power) -> Rule
+    requires { ⌜ Ready (state-of roll progress (now log)) (now table) × (total .0 ≡ total-of roll) × (h ≡ told (now log) (progress .stand .round .0)) ⌝ }
+    ensures { λ r. ⌜ r ≡ from-34 (desk (state-of roll progress (now (log .entry))) (now (table .entry))) ⌝ }
 {
-    let stand = votes.stand;
+    let stand = progress.stand;
     let now = stand.round;
     let kiosks = roll.kiosks;
     let rule = prevote_rule(stand, h, &roll.powers, kiosks, table, total);
@@ -211,43 +202,40 @@ fn later_rule<'a>(
     if applies_47(stand, h, &roll.powers, kiosks, total) {
         return Rule::Line47;
     }
-    let mut r: u8 = 0;
-    while r < 16 {
-        let at = r as usize;
-        if !is_good(proposals[at]) {
+    let mut r: usize = 0;
+    while r < State::ROUNDS {
+        let there = heard_in(log, r);
+        if !is_good(there.proposal) {
             r += 1;
             continue;
         }
-        let marks = precommits[at];
-        let name = proposed(table, Round(r));
+        let round = Round(r as u8);
+        let name = proposed(table, round);
         let closes = is_large_named(
             &roll.powers,
             kiosks,
-            marks,
+            there.precommits,
             table,
-            precommits_place(Round(r)),
+            votes_place(Votes::Precommits, round),
             name,
             total,
         );
         if closes & (name != 0) {
-            return Rule::Line49(Round(r), name);
+            return Rule::Line49(round, name);
         }
         r += 1;
     }
-    let mut past: u8 = 16;
-    while now.0 + 1 < past {
-        let at = (past - 1) as usize;
-        let first = prevotes[at];
-        let second = precommits[at];
-        let proposal = proposals[at];
-        if (proposal == 0) & (first == 0) & (second == 0) {
+    let mut past = State::ROUNDS;
+    while (now.0 as usize) + 1 < past {
+        let there = heard_in(log, past - 1);
+        if (there.proposal == 0) & (there.prevotes == 0) & (there.precommits == 0) {
             past -= 1;
             continue;
         }
-        let turn = roll.proposer(Round(past - 1));
-        let marks = senders(first, second, proposal, turn);
+        let ahead = Round((past - 1) as u8);
+        let marks = senders(there, roll.proposer(ahead));
         if weigh(&roll.powers, kiosks, marks).is_some(total) {
-            return Rule::Line55(Round(past - 1));
+            return Rule::Line55(ahead);
         }
         past -= 1;
     }
@@ -255,55 +243,35 @@ fn later_rule<'a>(
 }
 
 // The first rule that applies.
-pub fn first_rule<'a>(
-    votes: Votes,
-    roll: Roll,
-    prevotes: &'a [u32; 16],
-    precommits: &'a [u32; 16],
-    proposals: &'a [u8; 16],
-    valids: &'a [u8; 16],
-    table: &[u64],
-    total: Power,
-) -> Rule
-    requires { ⌜ Ready (state-of roll votes (log-of (now prevotes) (now precommits) (now proposals) (now valids))) (now table) × (total .0 ≡ total-of roll) ⌝ }
-    ensures { λ r. ⌜ r ≡ first-rule (desk (state-of roll votes (log-of (now (prevotes .entry)) (now (precommits .entry)) (now (proposals .entry)) (now (valids .entry)))) (now (table .entry))) ⌝ }
+pub fn first_rule(progress: Progress, roll: Roll, log: &Log, table: &[u64], total: Power) -> Rule
+    requires { ⌜ Ready (state-of roll progress (now log)) (now table) × (total .0 ≡ total-of roll) ⌝ }
+    ensures { λ r. ⌜ r ≡ first-rule (desk (state-of roll progress (now (log .entry))) (now (table .entry))) ⌝ }
 {
-    let phase = votes.phase;
+    let phase = progress.phase;
     if !is_running(phase) {
         return Rule::Nothing;
     }
-    let stand = votes.stand;
+    let stand = progress.stand;
     let now = stand.round;
-    let h = heard(prevotes, precommits, proposals, valids, now);
+    let h = heard(log, now);
     if applies_22(stand, h) {
         return Rule::Line22;
     }
     if proposed_before(stand, h) {
-        let valid = h.valid - 1;
-        let at = valid as usize;
-        let marks = prevotes[at];
+        let before = Round((h.valid - 1) as u8);
+        let there = heard(log, before);
         let name = proposed(table, now);
         if is_large_named(
             &roll.powers,
             roll.kiosks,
-            marks,
+            there.prevotes,
             table,
-            prevotes_place(Round(valid)),
+            votes_place(Votes::Prevotes, before),
             name,
             total,
         ) {
             return Rule::Line28;
         }
     }
-    later_rule(
-        votes,
-        roll,
-        h,
-        prevotes,
-        precommits,
-        proposals,
-        valids,
-        table,
-        total,
-    )
+    from_34(progress, roll, h, log, table, total)
 }

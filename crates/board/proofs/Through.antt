@@ -10,20 +10,20 @@ use borrow.Author.Tests.{ltb-true, ltb-false, le-leb}
 use Rattle.words.proofs.Choice.{by-cases, by-test, and-left, and-right}
 use Rattle.roll.specs.declared.Roll.{Roll}
 use Rattle.rules.specs.declared.Input.{Input}
-use Rattle.rules.specs.declared.Votes.{Votes}
-use Rattle.rules.specs.State.{state-of, votes-of, log-of}
+use Rattle.kiosk.specs.declared.Course.{Course}
+use Rattle.kiosk.specs.contracts.Lent as lent
 use Rattle.kiosk.specs.declared.Reply.{Reply}
 use Rattle.kiosk.specs.declared.Made.{Made}
-use Rattle.answers.specs.Answers.{number-of}
+use Rattle.refusals.specs.Answers.{number-of}
 use Rattle.kiosk.specs.Calls.{create, put, last-group}
 use Rattle.kiosk.specs.Opening.{open-journal}
 use Rattle.kiosk.specs.Promises as Kiosk
 use Rattle.listing.specs.declared.Page.{Page}
 use Rattle.listing.specs.Listing.{printed, Prints}
-use Rattle.flat.specs.declared.FlatKiosk.{FlatKiosk}
-use Rattle.flat.specs.declared.FlatInput.{FlatInput}
-use Rattle.flat.specs.declared.FlatReply.{FlatReply}
-use Rattle.flat.specs.Flat.{holds, kiosk-of, input-of, flat-reply, impossible}
+use Rattle.board.specs.declared.FlatKiosk.{FlatKiosk}
+use Rattle.board.specs.declared.FlatInput.{FlatInput}
+use Rattle.board.specs.declared.FlatReply.{FlatReply}
+use Rattle.board.specs.Flat.{holds, kiosk-of, course-of, input-of, flat-reply, impossible}
 use Rattle.board.specs.declared.FlatMade.{FlatMade}
 use Rattle.board.specs.declared.FlatPage.{FlatPage}
 use Rattle.board.specs.Board.{replied, board-create, board-open, board-put, last-part, board-list, Creates, Opens, Says, Lists}
@@ -41,13 +41,13 @@ unfolding board-open
 opens journal used table after r x s e =
     record { reply = rw (e, s .answer, s .sent, s .kiosk); table-is = s .table-is }
 
--- the log is lent as the twin has it, beside the roll, the votes and the input that are made of twins
-pub says : (i : FlatInput) (f : FlatKiosk) (table journal table′ journal′ : List ℕ) (j : Input) (roll : Roll) (votes : Votes) (r : Reply) (x : FlatReply)
-    → holds f ≡ true → j ≡ input-of i → roll ≡ kiosk-of f .state .roll → votes ≡ votes-of (kiosk-of f .state)
-    → Kiosk.Says (put j (record { state = state-of roll votes (log-of (f .prevotes) (f .precommits) (f .proposals) (f .valids)); used = f .used; last = f .last }) table journal) r table′ journal′
+-- the log is lent as the twin has it, beside the roll, the course and the input that are made of twins
+pub says : (i : FlatInput) (f : FlatKiosk) (table journal table′ journal′ : List ℕ) (j : Input) (roll : Roll) (course : Course) (r : Reply) (x : FlatReply)
+    → holds f ≡ true → j ≡ input-of i → roll ≡ kiosk-of f .state .roll → course ≡ course-of f
+    → Kiosk.Says (put j (lent.kiosk-of roll course (f .log)) table journal) r table′ journal′
     → x ≡ flat-reply r → Says (board-put i f table journal) x table′ journal′
 unfolding board-put
-says i f table journal table′ journal′ j roll votes r x h a b c s e =
+says i f table journal table′ journal′ j roll course r x h a b c s e =
     let t = rw (a, b, c) at s in
     rw h (record { reply = rw (e, t .answer, t .sent, t .kiosk); table-is = t .table-is; journal-is = t .journal-is })
 

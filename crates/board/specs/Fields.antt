@@ -5,10 +5,10 @@ use mathlib.Core.List.{List, [], _∷_}
 use lib.ListN.{getD}
 use lib.Dec.{ltb, eqb}
 use Rattle.words.specs.Choice.{if_then_else_}
-use Rattle.flat.specs.declared.FlatKiosk.{FlatKiosk}
-use Rattle.flat.specs.declared.FlatInput.{FlatInput}
-use Rattle.flat.specs.declared.FlatOutput.{FlatOutput}
-use Rattle.flat.specs.declared.FlatReply.{FlatReply}
+use Rattle.board.specs.declared.FlatKiosk.{FlatKiosk}
+use Rattle.board.specs.declared.FlatInput.{FlatInput}
+use Rattle.board.specs.declared.FlatOutput.{FlatOutput}
+use Rattle.board.specs.declared.FlatReply.{FlatReply}
 
 unfoldable pub plain-number : FlatKiosk → ℕ → ℕ
 plain-number f field =
@@ -31,19 +31,12 @@ plain-number f field =
     else if eqb field 17 then f .«valid_next»
     else 0
 
-unfoldable pub log-number : FlatKiosk → ℕ → ℕ → ℕ
-log-number f field round =
-    if eqb field 18 then getD (f .prevotes) round 0
-    else if eqb field 19 then getD (f .precommits) round 0
-    else if eqb field 20 then getD (f .proposals) round 0
-    else if eqb field 21 then getD (f .valids) round 0
-    else 0
-
 unfoldable pub kiosk-number : FlatKiosk → ℕ → ℕ → ℕ
 kiosk-number f field index =
     if eqb field 7 then (if ltb index 32 then getD (f .powers) index 0 else 0)
     else if ltb field 18 then plain-number f field
-    else if ltb index 16 then log-number f field index
+    else if ltb 18 field then 0
+    else if ltb index 64 then getD (f .log) index 0
     else 0
 
 unfoldable pub input-number : FlatInput → ℕ → ℕ

@@ -1,22 +1,22 @@
 // The calls.
+use crate::FlatInput;
+use crate::FlatKiosk;
 use crate::FlatMade;
 use crate::FlatPage;
 use crate::FlatPart;
-use answers::number_of;
-use flat::FlatInput;
-use flat::FlatKiosk;
-use flat::FlatReply;
-use flat::sent::flat_done;
-use flat::sent::flat_reply;
-use flat::sent::impossible;
-use flat::sent::input_of;
-use flat::state::holds;
-use flat::state::roll_of;
-use flat::state::votes_of;
+use crate::FlatReply;
+use crate::sent::flat_done;
+use crate::sent::flat_reply;
+use crate::sent::impossible;
+use crate::sent::input_of;
+use crate::state::course_of;
+use crate::state::holds;
+use crate::state::roll_of;
 use kiosk::calls::create;
 use kiosk::lent::put_lent;
 use opening::open;
 use printing::print_journal;
+use refusals::answers::number_of;
 use roll::Height;
 ghost use mathlib.Core.Path.{_≡_};
 ghost use lib.ListN.{length};
@@ -62,24 +62,9 @@ pub extern "C" fn slip_put(
         return impossible(f);
     }
     let roll = roll_of(f);
-    let mut prevotes = f.prevotes;
-    let mut precommits = f.precommits;
-    let mut proposals = f.proposals;
-    let mut valids = f.valids;
-    let d = put_lent(
-        votes_of(f),
-        roll,
-        f.used,
-        f.last,
-        input_of(i),
-        &mut prevotes,
-        &mut precommits,
-        &mut proposals,
-        &mut valids,
-        table,
-        journal,
-    );
-    flat_done(roll, d, prevotes, precommits, proposals, valids)
+    let mut log = f.log;
+    let d = put_lent(course_of(f), roll, input_of(i), &mut log, table, journal);
+    flat_done(roll, d, log)
 }
 
 // The last whole group, as a part of the lent journal.

@@ -1,11 +1,13 @@
 // Numbers by field, for a caller to see that its compiler lays the structs as this library does.
-use flat::FlatInput;
-use flat::FlatKiosk;
-use flat::FlatOutput;
-use flat::FlatReply;
-ghost use Prim.Native.Nat.{_<_, _≤_};
+use crate::FlatInput;
+use crate::FlatKiosk;
+use crate::FlatOutput;
+use crate::FlatReply;
+use roll::Roll;
+use rules::State;
+ghost use Prim.Native.Nat.{_≤_};
 ghost use mathlib.Core.Path.{_≡_};
-ghost use Rattle.board.specs.Fields.{plain-number, log-number, kiosk-number, input-number, output-from, layout-from, layout};
+ghost use Rattle.board.specs.Fields.{plain-number, kiosk-number, input-number, output-from, layout-from, layout};
 
 // A field that is one number, by its place in the struct.
 fn plain_number(f: FlatKiosk, field: usize) -> u64
@@ -33,38 +35,12 @@ fn plain_number(f: FlatKiosk, field: usize) -> u64
     }
 }
 
-// A number of an array of the log.
-fn log_number(f: FlatKiosk, field: usize, round: usize) -> u64
-    requires { ⌜ round < 16 ⌝ }
-    ensures { λ n. ⌜ n ≡ log-number f field round ⌝ }
-{
-    match field {
-        18 => {
-            let prevotes = f.prevotes;
-            prevotes[round] as u64
-        }
-        19 => {
-            let precommits = f.precommits;
-            precommits[round] as u64
-        }
-        20 => {
-            let proposals = f.proposals;
-            proposals[round] as u64
-        }
-        21 => {
-            let valids = f.valids;
-            valids[round] as u64
-        }
-        _ => 0,
-    }
-}
-
 #[no_mangle]
 pub extern "C" fn slip_kiosk_number(f: FlatKiosk, field: usize, index: usize) -> u64
     ensures { λ n. ⌜ n ≡ kiosk-number f field index ⌝ }
 {
     if field == 7 {
-        if 32 <= index {
+        if Roll::MOST <= index {
             return 0;
         }
         let powers = f.powers;
@@ -73,10 +49,14 @@ pub extern "C" fn slip_kiosk_number(f: FlatKiosk, field: usize, index: usize) ->
     if field < 18 {
         return plain_number(f, field);
     }
-    if 16 <= index {
+    if 18 < field {
         return 0;
     }
-    log_number(f, field, index)
+    if State::LOG <= index {
+        return 0;
+    }
+    let log = f.log;
+    log[index] as u64
 }
 
 #[no_mangle]

@@ -17,16 +17,18 @@ use Rattle.words.proofs.Choice.{by-cases, lowest-least}
 use Rattle.roll.specs.declared.Roll.{Roll}
 use Rattle.roll.specs.Weighing.{proposer}
 use Rattle.roll.proofs.Weighing.{fits-count}
+use Rattle.rules.specs.declared.Votes.{Votes}
+use Rattle.rules.specs.declared.Votes.the-variants.{Prevotes, Precommits}
 use Rattle.rules.specs.declared.Phase.the-variants.{Running}
 use Rattle.rules.specs.declared.Rule.the-variants.{Nothing}
 use Rattle.rules.specs.declared.Step.the-variants.{Propose}
-use Rattle.rules.specs.State.{most-rounds, is-running, spoken}
-use Rattle.rules.specs.Log.{Desk, heard, proposed, prevote-power-for}
-use Rattle.rules.specs.Doing.{current, step}
+use Rattle.rules.specs.State.{most-rounds, marks-of, is-running, spoken}
+use Rattle.rules.specs.Log.{Desk, heard, proposed, voted, power-for}
+use Rattle.rules.specs.Doing.{current, step, step-of}
 use Rattle.rules.specs.Rules.{applies-22, applies-28, applies-49, closing-sheet, closing-round, first-rule}
-use Rattle.rules.proofs.ByRule.{Quiet, none-applies}
+use Rattle.rules.proofs.ByRule.{Idle, none-applies}
 use Rattle.history.specs.Histories.{Call, Past, History, sent-in}
-use Rattle.history.proofs.Silence.{no-rule}
+use Rattle.history.proofs.Unheard.{no-rule}
 use Rattle.agreement.specs.Weigh.{Seats}
 use Rattle.agreement.specs.Moves.{Out, prevote, precommit, proposal}
 use Rattle.agreement.specs.Honest.{Kind, pv, pc, said, From}
@@ -34,7 +36,7 @@ use Rattle.agreement.specs.System.{Sound}
 use Rattle.agreement.proofs.System.{on-so, opened-so}
 use Rattle.market.specs.Seat.{acts, step-number}
 use Rattle.market.specs.Demand3.{roll-at, World, Reached, Put-out}
-use Rattle.market.proofs.Votes.{marks, name-of}
+use Rattle.market.proofs.Votes.{kind-of}
 use Rattle.market.proofs.Good.{Good}
 use Rattle.market.proofs.Honest.{at, arrivals, history-good}
 use Rattle.market.proofs.Each.{Terms, law, sound, recalls, recalled-out, out-recalled}
@@ -111,13 +113,13 @@ module _ {powers : List ℕ} {height : ℕ} {keeps : Seats} (m : Terms powers he
     own : Owns (roll i) (arrivals calls) outs (d i)
     own = owns told
 
-    run : is-running (d i .state .phase) ≡ true
+    run : is-running (d i .state .progress .phase) ≡ true
     run = rw (s .stands i ki)
 
     calm : first-rule (d i) ≡ Nothing
     calm = no-rule told (rw (s .stands i ki))
 
-    idle : Quiet (d i) × (applies-49 (d i) ≡ false)
+    idle : Idle (d i) × (applies-49 (d i) ≡ false)
     idle = let n = none-applies (d i) run calm in (n .0, n .1)
 
     -- the step, as a number
@@ -164,11 +166,11 @@ module _ {powers : List ℕ} {height : ℕ} {keeps : Seats} (m : Terms powers he
 
   module _ (i : ℕ) (ki : Is i) where
     -- a vote of a rule-keeping kiosk it put out
-    held-vote : (k : Kind) (r j : ℕ) → Is j → marked (marks k (d i) r) j ≡ true → Said j (said k r (name-of k (d i) r j))
-    held-vote k r j kj t = go (good i ki .logs .votes k r j (kj .0) t)
+    held-vote : (v : Votes) (r j : ℕ) → Is j → marked (marks-of v (heard (d i) r)) j ≡ true → Said j (said (kind-of v) r (voted v (d i) r j))
+    held-vote v r j kj t = go (good i ki .logs .votes v r j (kj .0) t)
       where
-        go : From i (arrivals (calls i ki)) (outs i ki) k r (name-of k (d i) r j) j → Said j (said k r (name-of k (d i) r j))
-        go (inl h) = subst (λ (m : ℕ). Said m (said k r (name-of k (d i) r j))) (sym (h .0)) (put-of i ki _ (h .1))
+        go : From i (arrivals (calls i ki)) (outs i ki) (kind-of v) r (voted v (d i) r j) j → Said j (said (kind-of v) r (voted v (d i) r j))
+        go (inl h) = subst (λ (m : ℕ). Said m (said (kind-of v) r (voted v (d i) r j))) (sym (h .0)) (put-of i ki _ (h .1))
         go (inr a) = came i ki j kj _ a
 
     -- and a proposal, its proposer
@@ -228,7 +230,7 @@ module _ {powers : List ℕ} {height : ℕ} {keeps : Seats} (m : Terms powers he
     at-22 e t z = rw (s .one-round i ki, e, t, the-one t .0, z)
 
     at-28 : step (d i) ≡ Propose → spoken (heard (d i) (g .round)) ≡ true → 1 ≤ g .valid → applies-28 (d i) ≡ true
-    unfolding applies-28 prevote-power-for
+    unfolding applies-28 power-for
     at-28 e t z =
         let x = the-one t in
         rw (s .one-round i ki, e, t, x .0, x .1, le-leb 1 (g .valid) z, le-leb (g .valid) (g .round) low) (s .backed i ki z)
@@ -243,12 +245,12 @@ module _ {powers : List ℕ} {height : ℕ} {keeps : Seats} (m : Terms powers he
 
     -- no precommit of the round, no vote and no proposal of a later one, is a rule-keeping kiosk's
     early : (j : ℕ) → j < length powers → marked (heard (d i) (g .round) .precommits) j ≡ true → keeps j ≡ false
-    early j hj t = by-cases (keeps j) (λ kj. absurd (omega (arith, old-precommit j (hj, kj) (g .round) _ (held-vote i ki pc (g .round) j (hj, kj) t)))) (λ kj. kj)
+    early j hj t = by-cases (keeps j) (λ kj. absurd (omega (arith, old-precommit j (hj, kj) (g .round) _ (held-vote i ki Precommits (g .round) j (hj, kj) t)))) (λ kj. kj)
 
-    ahead-vote : (k : Kind) (r j : ℕ) → g .round < r → j < length powers → marked (marks k (d i) r) j ≡ true → keeps j ≡ false
-    ahead-vote k r j h hj t =
+    ahead-vote : (v : Votes) (r j : ℕ) → g .round < r → j < length powers → marked (marks-of v (heard (d i) r)) j ≡ true → keeps j ≡ false
+    ahead-vote v r j h hj t =
         by-cases (keeps j)
-        (λ kj. absurd (⊎-elim (λ z. omega (arith, z, h)) (λ z. omega (arith, z .0, h)) (vote-so j (hj, kj) k r _ (held-vote i ki k r j (hj, kj) t))))
+        (λ kj. absurd (⊎-elim (λ z. omega (arith, z, h)) (λ z. omega (arith, z .0, h)) (vote-so j (hj, kj) (kind-of v) r _ (held-vote i ki v r j (hj, kj) t))))
         (λ kj. kj)
 
     ahead-proposal : (r : ℕ) → g .round < r → spoken (heard (d i) r) ≡ true → keeps (proposer (roll i) r) ≡ false
@@ -261,8 +263,8 @@ module _ {powers : List ℕ} {height : ℕ} {keeps : Seats} (m : Terms powers he
         absurd (omega (arith, z .0, s .one-round j k, h)))
         (λ kr. kr)
 
-    this-vote : (k : Kind) (j : ℕ) → j < length powers → keeps j ≡ true → marked (marks k (d i) (g .round)) j ≡ true → name-of k (d i) (g .round) j ≡ g .name
-    this-vote k j hj kj t = ⊎-elim (λ z. absurd (omega (arith, z))) (λ z. z .1) (vote-so j (hj, kj) k (g .round) _ (held-vote i ki k (g .round) j (hj, kj) t))
+    this-vote : (v : Votes) (j : ℕ) → j < length powers → keeps j ≡ true → marked (marks-of v (heard (d i) (g .round))) j ≡ true → voted v (d i) (g .round) j ≡ g .name
+    this-vote v j hj kj t = ⊎-elim (λ z. absurd (omega (arith, z))) (λ z. z .1) (vote-so j (hj, kj) (kind-of v) (g .round) _ (held-vote i ki v (g .round) j (hj, kj) t))
 
     this-sheet : Dec (i ≡ turn) → spoken (heard (d i) (g .round)) ≡ true →
         (heard (d i) (g .round) .proposal ≡ 2) × (heard (d i) (g .round) .valid ≡ g .valid) × (proposed (d i) (g .round) ≡ g .name)
@@ -292,6 +294,15 @@ module _ {powers : List ℕ} {height : ℕ} {keeps : Seats} (m : Terms powers he
         go (yes e) = e
         go (no n) = absurd (omega (arith, h, first-step i ki n))
 
+    -- its own votes: none is a precommit
+    own-voted : (v : Votes) → step-number (step-of v) ≤ step-number (step (d i)) → marked (marks-of v (heard (d i) (g .round))) i ≡ true
+    own-voted Prevotes h = subst (λ (r : ℕ). marked (heard (d i) r .prevotes) i ≡ true) (s .one-round i ki) (own i ki .own-prevote h)
+    own-voted Precommits h = absurd (omega (arith, h, low-step i ki))
+
+    own-said : (v : Votes) → step-number (step-of v) ≤ step-number (step (d i)) → In (said (kind-of v) (g .round) (g .name)) (outs i ki)
+    own-said Prevotes h = out-of i ki _ (subst (λ (m : ℕ). Said m (prevote (g .round) (g .name))) (sym (is-turn h)) (s .has-prevoted))
+    own-said Precommits h = absurd (omega (arith, h, low-step i ki))
+
     stands : Stands (roll i) keeps g (d i)
     stands = record {
       holds = holds;
@@ -301,8 +312,7 @@ module _ {powers : List ℕ} {height : ℕ} {keeps : Seats} (m : Terms powers he
       early = λ h. early;
       unbacked = own i ki .unbacked;
       spoke = λ h. rw (is-turn h) spoken-there;
-      own-prevote = λ h. subst (λ (r : ℕ). marked (heard (d i) r .prevotes) i ≡ true) (s .one-round i ki) (own i ki .own-prevote h);
-      own-precommit = λ e. absurd (omega (arith, e, low-step i ki));
+      own-votes = own-voted;
     }
 
     proposal-so : (r valid name : ℕ) → In (proposal (r ∷ valid ∷ name ∷ [])) (outs i ki) → (r < g .round) ⊎ ((r ≡ g .round) × (valid ≡ g .valid) × (name ≡ g .name))
@@ -317,8 +327,7 @@ module _ {powers : List ℕ} {height : ℕ} {keeps : Seats} (m : Terms powers he
 
     tells : Tells (roll i) keeps g (step-number (step (d i))) (outs i ki)
     tells = record {
-      said-prevote = λ h. out-of i ki _ (subst (λ (m : ℕ). Said m (prevote (g .round) (g .name))) (sym (is-turn h)) (s .has-prevoted));
-      said-precommit = λ e. absurd (omega (arith, e, low-step i ki));
+      said-votes = own-said;
       votes = λ k r u a. vote-so i ki k r u (put-of i ki _ a);
       proposals = proposal-so;
     }

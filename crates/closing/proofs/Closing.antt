@@ -9,6 +9,7 @@ use native.Mathlib.Omega.{arith}
 use native.Mathlib.Decide.{ℕ-discrete}
 use Rattle.words.specs.Marks.{marked}
 use Rattle.words.specs.Members.{In}
+use Rattle.rules.specs.declared.Votes.the-variants.{Prevotes, Precommits}
 use Rattle.rules.specs.declared.Phase.the-variants.{Running, Settled}
 use Rattle.rules.specs.Log.{heard, proposed}
 use Rattle.rules.specs.Doing.{step}
@@ -27,9 +28,9 @@ use Rattle.closing.specs.Waves.{Keeps, Delivery, Play}
 use Rattle.closing.specs.Closing.{Proposal, turn-of, Good-round, Large-together, May-arrive, Three-waves, Closed, Closes}
 use Rattle.closing.proofs.Weights.{keeping-large}
 use Rattle.closing.proofs.Rest.{past-precommits}
-use Rattle.closing.proofs.Messages.{brings-precommit}
+use Rattle.closing.proofs.Messages.{brings-vote}
 use Rattle.closing.proofs.Beginning.{recalls-so, ground, waits, own-offer, q}
-use Rattle.closing.proofs.Plays.{On, Keeps-on, meant-vote, precommit-of, after-proposal, after-prevotes, play-keeps}
+use Rattle.closing.proofs.Plays.{On, Keeps-on, meant-vote, vote-of, after-proposal, after-prevotes, play-keeps}
 
 module _ {powers : List ℕ} {height : ℕ} {keeps : Seats} (m : Terms powers height keeps) {v : World powers height keeps} (reach : Reached powers height keeps v) {g : Proposal}
     (s : Good-round (λ p. p ≡ Running) powers height keeps v g)
@@ -73,7 +74,7 @@ module _ {powers : List ℕ} {height : ℕ} {keeps : Seats} (m : Terms powers he
     past-propose = after-proposal m (ground m reach s) (s .turn) ds i ki outs p on-it (came .proposal-came i ki)
 
     prevoted : Says i (prevote (g .round) (g .name))
-    prevoted = put-out _ (on-it .waits-on .tells .said-prevote past-propose)
+    prevoted = put-out _ (on-it .waits-on .tells .said-votes Prevotes past-propose)
 
   module _ (i : ℕ) (ki : Is i) where
     past-prevote : step-number (step (at (p i ki))) ≡ 2
@@ -82,19 +83,19 @@ module _ {powers : List ℕ} {height : ℕ} {keeps : Seats} (m : Terms powers he
         (λ j kj n. (g .name, came .prevotes-came i j (g .name) ki kj n (prevoted j kj)))
 
     precommitted : Says i (precommit (g .round) (g .name))
-    precommitted = put-out i ki _ (on-it i ki .waits-on .tells .said-precommit past-prevote)
+    precommitted = put-out i ki _ (on-it i ki .waits-on .tells .said-votes Precommits (omega (arith, past-prevote)))
 
   module _ (i : ℕ) (ki : Is i) where
     -- while it runs it holds every precommit, and so no longer runs
-    held : p i ki .kiosk .state .phase ≡ Running → (j : ℕ) → Is j → Dec (j ≡ i) → marked (heard (at (p i ki)) (g .round) .precommits) j ≡ true
-    held run j kj (yes e) = rw e (on-it i ki .waits-on .stands .own-precommit (past-prevote i ki))
+    held : p i ki .kiosk .state .progress .phase ≡ Running → (j : ℕ) → Is j → Dec (j ≡ i) → marked (heard (at (p i ki)) (g .round) .precommits) j ≡ true
+    held run j kj (yes e) = rw e (on-it i ki .waits-on .stands .own-votes Precommits (omega (arith, past-prevote i ki)))
     held run j kj (no n) =
         let c = came .precommits-came i j (g .name) ki kj n (precommitted j kj) in
-        let b = brings-precommit (c .0) (c .2 .brings-it .0) (g .round) (g .name) (c .2 .brings-it .2) in
-        precommit-of m (ground m reach s) (s .turn) ds i ki (outs i ki) (p i ki) (on-it i ki) run (c .0) j (b .0) (b .1) (c .2 .brings-it .1)
+        let b = brings-vote (c .0) (c .2 .brings-it .0) Precommits (g .round) (g .name) (c .2 .brings-it .2) in
+        vote-of m (ground m reach s) (s .turn) ds i ki (outs i ki) (p i ki) (on-it i ki) Precommits run (c .0) j (b .0) (b .1) (c .2 .brings-it .1)
         (on-it i ki .held (c .0) (c .1) (meant-vote m (ground m reach s) (s .turn) i j 4 (c .0) _ n (c .2) (b .0, b .1) (λ z. omega (arith, z))))
 
-    settles : p i ki .kiosk .state .phase ≡ Settled (record { 0 = g .round })
+    settles : p i ki .kiosk .state .progress .phase ≡ Settled (record { 0 = g .round })
     settles =
         ⊎-elim
         (λ run. absurd (past-precommits (roll-at powers height i) keeps g (ground m reach s i ki) (at (p i ki)) (on-it i ki .waits-on .stands) (on-it i ki .waits-on .rest) run

@@ -13,13 +13,14 @@ use Rattle.words.specs.Choice.{all-below}
 use Rattle.words.specs.Members.{In}
 use Rattle.words.proofs.Choice.{zero-one, by-cases, and-left, and-right, or-case, all-holds}
 use Rattle.roll.specs.declared.Roll.{Roll}
+use Rattle.rules.specs.declared.Votes.the-variants.{Prevotes}
 use Rattle.rules.specs.declared.Input.{Input}
 use Rattle.rules.specs.declared.Phase.{Phase}
 use Rattle.rules.specs.declared.Phase.the-variants.{Fresh, Running, Settled}
 use Rattle.rules.specs.declared.Step.{Step}
 use Rattle.rules.specs.declared.Step.the-variants.{Propose, Prevote, Precommit}
 use Rattle.rules.specs.State.{most-rounds, is-running, is-settled, is-propose, is-prevote}
-use Rattle.rules.specs.Log.{Desk, proposed, prevote-power-for}
+use Rattle.rules.specs.Log.{Desk, proposed, power-for}
 use Rattle.rules.specs.Doing.{current, step}
 use Rattle.rules.specs.Rules.{is-large}
 use Rattle.refusals.specs.Refusals.{is-proposal, is-vote, is-timer, fields-fit}
@@ -93,11 +94,11 @@ outs-of (lit p cs) = acts (sent-in cs)
 
 abbrev pub phase-of : Seat → Phase
 phase-of dark = Fresh
-phase-of (lit p cs) = p .kiosk .state .phase
+phase-of (lit p cs) = p .kiosk .state .progress .phase
 
 abbrev pub unsettled : Seat → Bool
 unsettled dark = false
-unsettled (lit p cs) = not (is-settled (p .kiosk .state .phase))
+unsettled (lit p cs) = not (is-settled (p .kiosk .state .progress .phase))
 
 running-so : (p : Phase) → is-running p ≡ true → p ≡ Running
 running-so Fresh e = absurd (false≢true e)
@@ -217,7 +218,7 @@ module _ (m : Market) where
   is-on i dark e = absurd (false≢true e)
   is-on i (lit p cs) e = refl
 
-  phase-is : (i : ℕ) (q : Seat) → phase-of q ≡ past-of i q .kiosk .state .phase
+  phase-is : (i : ℕ) (q : Seat) → phase-of q ≡ past-of i q .kiosk .state .progress .phase
   phase-is i dark = refl
   phase-is i (lit p cs) = refl
 
@@ -331,10 +332,10 @@ module _ (m : Market) where
     has-led s i = is-prevote (step (stand-at s i)) && among (offer-of g) (outs-of (s .seat i)) && among (prevote (g .round) (g .name)) (outs-of (s .seat i))
 
     abbrev lock-fits : Scene → ℕ → Bool
-    lock-fits s i = leb (past-of i (s .seat i) .kiosk .state .locked .next) (g .valid) || eqb (past-of i (s .seat i) .kiosk .state .locked .name) (g .name)
+    lock-fits s i = leb (past-of i (s .seat i) .kiosk .state .progress .locked .next .0) (g .valid) || eqb (past-of i (s .seat i) .kiosk .state .progress .locked .name) (g .name)
 
     abbrev holds-old : Scene → ℕ → Bool
-    holds-old s i = eqb (g .valid) 0 || is-large (stand-at s i) (prevote-power-for (stand-at s i) (pred (g .valid)) (g .name))
+    holds-old s i = eqb (g .valid) 0 || is-large (stand-at s i) (power-for Prevotes (stand-at s i) (pred (g .valid)) (g .name))
 
     abbrev stands-so : Scene → ℕ → Bool
     stands-so s i =
@@ -389,8 +390,8 @@ module _ (m : Market) where
         at-prevote = prevote-so (step (stand-at s turn)) (led-so .0);
         at-propose = λ i k other-seat. propose-so (step (stand-at s i)) (rw (ne-eqb i turn other-seat) at (seat-so i k .2));
         unlocked = λ i k.
-            let l = past-of i (s .seat i) .kiosk .state .locked in
-            ⊎-elim (λ t. inl (leb-true (l .next) (g .valid) t)) (λ t. inr (eqb-true (l .name) (g .name) t)) (or-case (leb (l .next) (g .valid)) (eqb (l .name) (g .name)) (seat-so i k .3));
+            let l = past-of i (s .seat i) .kiosk .state .progress .locked in
+            ⊎-elim (λ t. inl (leb-true (l .next .0) (g .valid) t)) (λ t. inr (eqb-true (l .name) (g .name) t)) (or-case (leb (l .next .0) (g .valid)) (eqb (l .name) (g .name)) (seat-so i k .3));
         backed = λ i k some. rw (ne-eqb (g .valid) 0 (λ z. omega arith)) at (seat-so i k .4);
       }
 
@@ -402,13 +403,13 @@ module _ (m : Market) where
       pub file : List ℕ
       pub powered : w .board i ≡ on past file
       pub put-out : Put-out (m .powers) (m .height) (m .keeps) w i (settled (g .round) (g .name))
-      pub phase : past .kiosk .state .phase ≡ Settled (record { 0 = g .round })
+      pub phase : past .kiosk .state .progress .phase ≡ Settled (record { 0 = g .round })
       pub sheet : proposed (desk-of past) (g .round) ≡ g .name
 
     abbrev settled-test : Seat → Bool
     settled-test dark = false
     settled-test (lit p cs) =
-        among (settled (g .round) (g .name)) (acts (sent-in cs)) && settled-at (g .round) (p .kiosk .state .phase) && eqb (proposed (desk-of p) (g .round)) (g .name)
+        among (settled (g .round) (g .name)) (acts (sent-in cs)) && settled-at (g .round) (p .kiosk .state .progress .phase) && eqb (proposed (desk-of p) (g .round)) (g .name)
 
     unfoldable pub closed-test : Scene → Bool
     closed-test s = keepers (λ i. settled-test (s .seat i))
@@ -422,14 +423,14 @@ module _ (m : Market) where
         one (lit p cs) f t =
             let o = settled (g .round) (g .name) in
             let a = among o (acts (sent-in cs)) in
-            let b = settled-at (g .round) (p .kiosk .state .phase) in
+            let b = settled-at (g .round) (p .kiosk .state .progress .phase) in
             let c = eqb (proposed (desk-of p) (g .round)) (g .name) in
             record {
               past = p;
               file = written (roll i) cs;
               powered = ap (board-of m i) f;
               put-out = put-out-so s known i (ap is-lit f) o (subst (λ (q : Seat). In o (outs-of q)) (sym f) (among-in o (acts (sent-in cs)) (and-left a b (and-left (a && b) c t))));
-              phase = settled-so (g .round) (p .kiosk .state .phase) (and-right a b (and-left (a && b) c t));
+              phase = settled-so (g .round) (p .kiosk .state .progress .phase) (and-right a b (and-left (a && b) c t));
               sheet = eqb-true (proposed (desk-of p) (g .round)) (g .name) (and-right (a && b) c t);
             }
 
@@ -494,7 +495,7 @@ module _ (m : Market) (g : Proposal) (opening moves : List Move) (test : List Ms
       open-still : Closed (m .powers) (m .height) (m .keeps) g (world-of m end) → (q : Seat) → end .seat i ≡ q → unsettled q ≡ true → ⊥
       open-still c dark s u = false≢true u
       open-still c (lit p cs) s u =
-          false≢true (sym (not-true (is-settled (p .kiosk .state .phase)) u) ∙ ap is-settled (c .holds i k p (with-power (written (roll-at (m .powers) (m .height) i) cs) (ap (board-of m i) s)) .0))
+          false≢true (sym (not-true (is-settled (p .kiosk .state .progress .phase)) u) ∙ ap is-settled (c .holds i k p (with-power (written (roll-at (m .powers) (m .height) i) cs) (ap (board-of m i) s)) .0))
 
 -- To compute a tale: `unfolding the-tales` opens all that it takes.
 unfoldable pub the-tales : Unit {0}

@@ -43,7 +43,7 @@ four = record { powers = powers; height = 0; keeps = keeps; terms = record { fit
 
 abbrev pub input : ℕ → ℕ → ℕ → ℕ → ℕ → ℕ → ℕ → Input
 input kind sender round valid verdict name offer =
-    record { kind = kind; height = record { 0 = 0 }; sender = sender; round = record { 0 = round }; valid = valid; verdict = verdict; name = name; offer = offer }
+    record { kind = kind; height = record { 0 = 0 }; sender = sender; round = record { 0 = round }; valid = record { 0 = valid }; verdict = verdict; name = name; offer = offer }
 
 -- start with an offer; the timers
 abbrev starts : ℕ → Input

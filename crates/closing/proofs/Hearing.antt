@@ -13,25 +13,27 @@ use Rattle.words.specs.Marks.{marked}
 use Rattle.words.proofs.Choice.{by-cases, and-false, or-case}
 use Rattle.roll.specs.declared.Roll.{Roll}
 use Rattle.roll.specs.Weighing.{proposer}
+use Rattle.rules.specs.declared.Votes.{Votes}
+use Rattle.rules.specs.declared.Votes.the-variants.{Prevotes, Precommits}
 use Rattle.rules.specs.declared.Input.{Input}
 use Rattle.rules.specs.declared.Phase.{Phase}
 use Rattle.rules.specs.declared.Phase.the-variants.{Running, Settled}
-use Rattle.rules.specs.State.{most-rounds, is-fresh, spoken}
-use Rattle.rules.specs.Log.{Desk, heard, hear-proposal}
+use Rattle.rules.specs.Kinds.{vote-in}
+use Rattle.rules.specs.State.{most-rounds, marks-of, is-fresh, spoken}
+use Rattle.rules.specs.Log.{Desk, heard, hear-proposal, hear-vote}
 use Rattle.rules.specs.Doing.{step}
 use Rattle.rules.specs.Work.{take-in, most-firings, worked}
-use Rattle.rules.proofs.Hearing.{proposal-spoken}
-use Rattle.answers.specs.Answers.{is-accepted}
+use Rattle.rules.proofs.Hearing.{vote-marked, vote-heard, proposal-votes, proposal-spoken}
+use Rattle.refusals.specs.Answers.{is-accepted}
 use Rattle.refusals.specs.Refusals.{is-proposal, is-vote, fields-fit, place-heard, refused-input}
 use Rattle.kiosk.proofs.Accepted.{fits, rests, Passes, welcome, fields-of, accepted-passes}
-use Rattle.kiosk.proofs.Taken.{Message, Taken, starts, hears-proposal, hears-prevote, hears-precommit, timer, taken}
+use Rattle.kiosk.proofs.Taken.{Message, Taken, starts, hears-proposal, hears-vote, timer, taken}
 use Rattle.history.specs.Histories.{Past, does, after, takes}
 use Rattle.history.proofs.Steady.{possible-after}
 use Rattle.agreement.specs.Weigh.{Seats}
 use Rattle.agreement.specs.Moves.{Out}
-use Rattle.agreement.specs.Honest.{Kind, pv, pc}
 use Rattle.market.specs.Seat.{acts, step-number}
-use Rattle.market.proofs.Votes.{kind-of, marks, hear, Beside, beside-vote, beside-proposal, proposal-votes, vote-marked, vote-heard}
+use Rattle.market.proofs.Votes.{vote-there, Beside, beside-vote, beside-proposal}
 use Rattle.market.proofs.Honest.{at}
 use Rattle.closing.specs.Closing.{Proposal}
 use Rattle.closing.proofs.Situation.{Ground, Holds, Stands, Acts, Waits, Fair}
@@ -66,9 +68,9 @@ module _ (roll : Roll) (keeps : Seats) (g : Proposal) (b : Ground roll keeps g) 
   heard-later d u l x e =
       either (is-proposal x) (subst (λ (r : ℕ). spoken (heard d r) ≡ true → spoken (heard u r) ≡ true) (sym e) (l .spoke))
       (either (eqb (x .kind) 3)
-      (subst (λ (r : ℕ). marked (heard d r .prevotes) (x .sender) ≡ true → marked (heard u r .prevotes) (x .sender) ≡ true) (sym e) (l .votes pv (x .sender)))
+      (subst (λ (r : ℕ). marked (heard d r .prevotes) (x .sender) ≡ true → marked (heard u r .prevotes) (x .sender) ≡ true) (sym e) (l .votes Prevotes (x .sender)))
       (either (eqb (x .kind) 4)
-      (subst (λ (r : ℕ). marked (heard d r .precommits) (x .sender) ≡ true → marked (heard u r .precommits) (x .sender) ≡ true) (sym e) (l .votes pc (x .sender)))
+      (subst (λ (r : ℕ). marked (heard d r .precommits) (x .sender) ≡ true → marked (heard u r .precommits) (x .sender) ≡ true) (sym e) (l .votes Precommits (x .sender)))
       (λ h. h)))
 
   -- ## An accepted message
@@ -97,8 +99,7 @@ module _ (roll : Roll) (keeps : Seats) (g : Proposal) (b : Ground roll keeps g) 
         early = rw (e .stand-same) early;
         unbacked = rw (e .stand-same) (s .unbacked);
         spoke = λ l. t .spoke (s .spoke (rw (e .stand-same) at l));
-        own-prevote = λ l. t .votes pv (roll .own) (s .own-prevote (rw (e .stand-same) at l));
-        own-precommit = λ l. t .votes pc (roll .own) (s .own-precommit (rw (e .stand-same) at l));
+        own-votes = λ v l. t .votes v (roll .own) (s .own-votes v (rw (e .stand-same) at l));
       };
       tells = rw (e .stand-same, e .sent-same) (a .tells);
     }
@@ -114,53 +115,52 @@ module _ (roll : Roll) (keeps : Seats) (g : Proposal) (b : Ground roll keeps g) 
       low-seat = omega (arith, b .few-kiosks, seat)
 
       -- an input of a vote's kind is one, and is heard where its mark is set
-      vote-input : (k : Kind) (u : Desk) → x .kind ≡ kind-of k → (is-vote x ≡ true) × (place-heard u x ≡ marked (marks k u (x .round .0)) (x .sender))
+      vote-input : (v : Votes) (u : Desk) → x .kind ≡ vote-in v → (is-vote x ≡ true) × (place-heard u x ≡ marked (marks-of v (heard u (x .round .0))) (x .sender))
       unfolding place-heard
-      vote-input pv u e = (rw e, rw e)
-      vote-input pc u e = (rw e, rw e)
+      vote-input Prevotes u e = (rw e, rw e)
+      vote-input Precommits u e = (rw e, rw e)
 
-      vote-next : (k : Kind) → x .kind ≡ kind-of k → Next (hear k d (x .round .0) (x .sender) (x .name))
-      vote-next k e =
+      vote-next : (v : Votes) → x .kind ≡ vote-in v → Next (hear-vote v d (x .round .0) (x .sender) (x .name))
+      vote-next v e =
           let q = x .round .0 in
-          let u = hear k d q (x .sender) (x .name) in
-          let t = vote-later k d q (x .sender) (x .name) (g .round) (f .not-earlier) low-seat in
-          let i = vote-input k u e in (
-            acts-on u (beside-vote k d q (x .sender) (x .name)) t
-                (vote-holds roll keeps g (b .few-kiosks) (b .low) d h q (f .not-earlier) there k (x .sender) (x .name) seat (f .vote-now (i .0)))
+          let u = hear-vote v d q (x .sender) (x .name) in
+          let t = vote-later v d q (x .sender) (x .name) (g .round) (f .not-earlier) low-seat in
+          let i = vote-input v u e in (
+            acts-on u (beside-vote v d q (x .sender) (x .name)) t
+                (vote-holds roll keeps g (b .few-kiosks) (b .low) d h q (f .not-earlier) there v (x .sender) (x .name) seat (f .vote-now (i .0)))
                 (λ l j n z.
                 ⊎-elim
-                (λ y. by-cases (keeps j) (λ kj. absurd (omega (arith, l, f .late (e ∙ ap kind-of (y .0)) (rw (y .2) at kj)))) (λ kj. kj))
+                (λ y. by-cases (keeps j) (λ kj. absurd (omega (arith, l, f .late (e ∙ ap vote-in (y .0)) (rw (y .2) at kj)))) (λ kj. kj))
                 (λ y. s .early l j n (y .0))
-                (vote-heard k d q (x .sender) (x .name) low-seat there (h .places) pc (g .round) j (omega (arith, b .few-kiosks, n)) z)),
+                (vote-heard v d q (x .sender) (x .name) low-seat (vote-there v d q (x .sender) low-seat there (h .places)) Precommits (g .round) j (omega (arith, b .few-kiosks, n)) z)),
             t,
-            i .1 ∙ vote-marked k d q (x .sender) (x .name) (h .sized) there,
+            i .1 ∙ vote-marked v d q (x .sender) (x .name) (h .sized) there,
           )
 
       -- the round's proposal is heard good
-      the-one : x .kind ≡ 2 → x .round .0 ≡ g .round → (eqb (x .verdict) 1 ≡ true) × (x .valid ≡ g .valid) × (x .name ≡ g .name)
+      the-one : x .kind ≡ 2 → x .round .0 ≡ g .round → (eqb (x .verdict) 1 ≡ true) × (x .valid .0 ≡ g .valid) × (x .name ≡ g .name)
       the-one k e =
           let now = f .proposal-now (eq-eqb (x .kind) 2 k) e in
           (eq-eqb (x .verdict) 1 (omega (arith, now .0)), now .1, now .2)
 
-      proposal-next : x .kind ≡ 2 → Next (hear-proposal d (x .round .0) (eqb (x .verdict) 1) (x .valid) (x .name))
+      proposal-next : x .kind ≡ 2 → Next (hear-proposal d (x .round .0) (eqb (x .verdict) 1) (x .valid .0) (x .name))
       unfolding place-heard
       proposal-next k =
           let q = x .round .0 in
           let v = eqb (x .verdict) 1 in
-          let u = hear-proposal d q v (x .valid) (x .name) in
-          let t = proposal-later d q v (x .valid) (x .name) (g .round) (f .not-earlier) in (
-            acts-on u (beside-proposal d q v (x .valid) (x .name)) t
-                (proposal-holds roll keeps g (b .few-kiosks) (b .low) d h q (f .not-earlier) there v (x .valid) (x .name) (the-one k) (f .proposal-ahead (eq-eqb (x .kind) 2 k)))
-                (λ l j n z. s .early l j n (rw (proposal-votes d q v (x .valid) (x .name) pc (g .round) 0 (omega arith) .0) at z)),
+          let u = hear-proposal d q v (x .valid .0) (x .name) in
+          let t = proposal-later d q v (x .valid .0) (x .name) (g .round) (f .not-earlier) in (
+            acts-on u (beside-proposal d q v (x .valid .0) (x .name)) t
+                (proposal-holds roll keeps g (b .few-kiosks) (b .low) d h q (f .not-earlier) there v (x .valid .0) (x .name) (the-one k) (f .proposal-ahead (eq-eqb (x .kind) 2 k)))
+                (λ l j n z. s .early l j n (rw (proposal-votes d q v (x .valid .0) (x .name) Precommits (g .round) 0 (omega arith) .0) at z)),
             t,
-            rw k (proposal-spoken d q v (x .valid) (x .name) (h .sized) there),
+            rw k (proposal-spoken d q v (x .valid .0) (x .name) (h .sized) there),
           )
 
     taken-next : (u : Desk) → x .kind ≤ 7 → Taken d x u → Next u
     taken-next u high (starts fresh k e) = absurd (false≢true (sym (started (s .going)) ∙ fresh))
     taken-next u high (hears-proposal m k turn some low n e) = subst Next (sym e) (proposal-next m k)
-    taken-next u high (hears-prevote m k n e) = subst Next (sym e) (vote-next m pv k)
-    taken-next u high (hears-precommit m k n e) = subst Next (sym e) (vote-next m pc k)
+    taken-next u high (hears-vote v m k n e) = subst Next (sym e) (vote-next m v k)
     taken-next u high (timer run late did) = absurd (true≢false (rw (le-leb 5 (x .kind) late, le-leb (x .kind) 7 high) at (f .no-timer)))
 
     -- and the rules after it
@@ -195,8 +195,7 @@ module _ (roll : Roll) (keeps : Seats) (g : Proposal) (b : Ground roll keeps g) 
               early = k .early;
               unbacked = k .unbacked;
               spoke = k .spoke;
-              own-prevote = k .own-prevote;
-              own-precommit = k .own-precommit;
+              own-votes = k .own-votes;
             };
             tells = n .0 .tells;
             rest = rests v (fits v (possible-after p x ok) .rest) (started (k .going));
@@ -208,14 +207,14 @@ module _ (roll : Roll) (keeps : Seats) (g : Proposal) (b : Ground roll keeps g) 
     -- what is refused of the round's messages is heard, or the kiosk has settled
     pub refused-held : (is-proposal x || is-vote x) ≡ true → x .height .0 ≡ roll .height .0 → fields-fit (roll .kiosks) most-rounds x ≡ true →
         (x .sender ≡ roll .own → ⊥) → (is-proposal x ≡ true → x .sender ≡ proposer roll (x .round .0)) → is-accepted (refused-input (at p) x) ≡ false →
-        (at p .state .phase ≡ Settled (record { 0 = g .round })) ⊎ (place-heard (at p) x ≡ true)
+        (at p .state .progress .phase ≡ Settled (record { 0 = g .round })) ⊎ (place-heard (at p) x ≡ true)
     refused-held m height fields other turn off =
         ⊎-elim (λ run. inr (by-cases (place-heard (at p) x) (λ e. e) (λ e. absurd (true≢false (sym (welcome (at p) x (passing run e)) ∙ off))))) (λ e. inl (e .0)) (w .stands .going)
       where
         on-roll : at p .state .roll ≡ roll
         on-roll = w .stands .holds .roll-is
 
-        passing : at p .state .phase ≡ Running → place-heard (at p) x ≡ false → Passes (at p) x
+        passing : at p .state .progress .phase ≡ Running → place-heard (at p) x ≡ false → Passes (at p) x
         passing run new =
             let k = message-kind x m in
             let young : leb 5 (x .kind) ≡ false = lt-leb 5 (x .kind) (omega (arith, k .1)) in

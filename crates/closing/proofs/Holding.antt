@@ -9,13 +9,14 @@ use Rattle.words.specs.Choice.{if_then_else_}
 use Rattle.words.proofs.Choice.{by-cases}
 use Rattle.roll.specs.declared.Roll.{Roll}
 use Rattle.roll.specs.Weighing.{proposer}
+use Rattle.rules.specs.declared.Votes.{Votes}
+use Rattle.rules.specs.declared.Votes.the-variants.{Prevotes, Precommits}
 use Rattle.rules.specs.State.{most-rounds, spoken}
-use Rattle.rules.specs.Log.{Desk, heard, proposed, hear-proposal, prevote-power-for}
+use Rattle.rules.specs.Log.{Desk, heard, proposed, hear-proposal, hear-vote, power-for}
 use Rattle.rules.specs.Rules.{is-large, closing-sheet}
-use Rattle.rules.proofs.Hearing.{proposal-other, proposal-same}
+use Rattle.rules.proofs.Hearing.{vote-heard, vote-sheets, proposal-votes, proposal-other, proposal-same}
 use Rattle.agreement.specs.Weigh.{Seats}
-use Rattle.agreement.specs.Honest.{Kind, pv, pc}
-use Rattle.market.proofs.Votes.{hear, log-same, beside-vote, beside-proposal, proposal-votes, vote-heard, vote-sheets}
+use Rattle.market.proofs.Votes.{log-same, vote-there, beside-vote, beside-proposal}
 use Rattle.closing.specs.Closing.{Proposal}
 use Rattle.closing.proofs.Situation.{Holds}
 use Rattle.closing.proofs.Later.{Later, vote-later, proposal-later}
@@ -30,41 +31,41 @@ module _ (roll : Roll) (keeps : Seats) (g : Proposal) where
     places = rw et (h .places);
     sized = rw el (h .sized);
     closed-below = λ q l. closing-same d u q er (rw el) (rw et) (λ j k. rw et) ∙ h .closed-below q l;
-    old = λ l. rw (votes-same d u (pred (g .valid)) er (rw el) pv (g .name) (λ j k. rw et), er) (h .old l);
+    old = λ l. rw (votes-same d u (pred (g .valid)) er (rw el) Prevotes (g .name) (λ j k. rw et), er) (h .old l);
     ahead-proposals = λ q l. rw el (h .ahead-proposals q l);
-    ahead-votes = λ k q j l m. rw (log-same d u el et k q j .0) (h .ahead-votes k q j l m);
+    ahead-votes = λ v q j l m. rw (log-same d u el et v q j .0) (h .ahead-votes v q j l m);
     sheet = rw (el, et) (h .sheet);
-    votes = λ k j m. let e = log-same d u el et k (g .round) j in rw (e .0, e .1) (h .votes k j m);
+    votes = λ v j m. let e = log-same d u el et v (g .round) j in rw (e .0, e .1) (h .votes v j m);
   }
 
   module _ (few : roll .kiosks ≤ 32) (low : g .valid ≤ g .round) where
     -- what is said of earlier rounds stays so
     below-kept : (d u : Desk) → Holds roll keeps g d → Later (g .round) d u →
-        ((q : ℕ) → q < g .round → closing-sheet u q ≡ 0) × (1 ≤ g .valid → is-large u (prevote-power-for u (pred (g .valid)) (g .name)) ≡ true)
+        ((q : ℕ) → q < g .round → closing-sheet u q ≡ 0) × (1 ≤ g .valid → is-large u (power-for Prevotes u (pred (g .valid)) (g .name)) ≡ true)
     below-kept d u h l =
         let seat : (j : ℕ) → j < d .state .roll .kiosks → j < 32 = λ j k. let k′ : j < roll .kiosks = rw (h .roll-is) at k in omega (arith, few, k′) in (
-          λ q m. closing-same d u q (l .roll) (l .below q m) (l .below-sheet q m) (λ j k. l .below-votes pc q j m (seat j k)) ∙ h .closed-below q m,
+          λ q m. closing-same d u q (l .roll) (l .below q m) (l .below-sheet q m) (λ j k. l .below-votes Precommits q j m (seat j k)) ∙ h .closed-below q m,
           λ m. let p : pred (g .valid) < g .round = omega (arith, m, low) in
-              rw (votes-same d u (pred (g .valid)) (l .roll) (l .below (pred (g .valid)) p) pv (g .name) (λ j k. l .below-votes pv (pred (g .valid)) j p (seat j k)), l .roll) (h .old m),
+              rw (votes-same d u (pred (g .valid)) (l .roll) (l .below (pred (g .valid)) p) Prevotes (g .name) (λ j k. l .below-votes Prevotes (pred (g .valid)) j p (seat j k)), l .roll) (h .old m),
         )
 
     module _ (d : Desk) (h : Holds roll keeps g d) (q : ℕ) (from : g .round ≤ q) (there : q < most-rounds) where
       -- a vote of this round or a later one; a rule-keeping kiosk's is of this round and for the proposal
-      module _ (k : Kind) (i name : ℕ) (seat : i < roll .kiosks) (fair : keeps i ≡ true → (q ≡ g .round) × (name ≡ g .name)) where
+      module _ (v : Votes) (i name : ℕ) (seat : i < roll .kiosks) (fair : keeps i ≡ true → (q ≡ g .round) × (name ≡ g .name)) where
         hi : i < 32
         hi = omega (arith, few, seat)
 
         not-ahead : (p : ℕ) → g .round < p → p ≡ q → keeps i ≡ false
         not-ahead p l e = by-cases (keeps i) (λ k. absurd (omega (arith, fair k .0))) (λ k. k)
 
-        pub vote-holds : Holds roll keeps g (hear k d q i name)
+        pub vote-holds : Holds roll keeps g (hear-vote v d q i name)
         vote-holds =
-            let u = hear k d q i name in
-            let t = vote-later k d q i name (g .round) from hi in
+            let u = hear-vote v d q i name in
+            let t = vote-later v d q i name (g .round) from hi in
             let b = below-kept d u h t in
-            let e = beside-vote k d q i name in
-            let new = vote-heard k d q i name hi there (h .places) in
-            let sheets = vote-sheets k d q i name hi in
+            let e = beside-vote v d q i name in
+            let new = vote-heard v d q i name hi (vote-there v d q i hi there (h .places)) in
+            let sheets = vote-sheets v d q i name hi in
             record {
               roll-is = t .roll ∙ h .roll-is;
               rounds-are = t .rounds ∙ h .rounds-are;

@@ -4,14 +4,14 @@ use mathlib.Core.Path.{_≡_, ap, _∙_}
 use mathlib.Core.Bool.{Bool, true}
 use native.Mathlib.Omega.{arith}
 use Rattle.words.specs.Marks.{marked}
+use Rattle.rules.specs.declared.Votes.{Votes}
 use Rattle.rules.specs.declared.Stand.{Stand}
-use Rattle.rules.specs.State.{spoken}
-use Rattle.rules.specs.Log.{Desk, heard, proposed, hear-proposal}
+use Rattle.rules.specs.State.{marks-of, spoken}
+use Rattle.rules.specs.Log.{Desk, heard, proposed, voted, hear-proposal, hear-vote}
 use Rattle.rules.specs.Doing.{step}
-use Rattle.rules.proofs.Hearing.{proposal-other, proposal-kept}
-use Rattle.agreement.specs.Honest.{Kind}
+use Rattle.rules.proofs.Hearing.{vote-other, vote-kept, vote-sheets, vote-names, proposal-votes, proposal-other, proposal-kept}
 use Rattle.market.specs.Seat.{step-number}
-use Rattle.market.proofs.Votes.{marks, name-of, hear, log-same, beside-vote, beside-proposal, proposal-votes, vote-kept, vote-other, vote-sheets, vote-names}
+use Rattle.market.proofs.Votes.{log-same, beside-vote, beside-proposal}
 
 -- the rounds below r are as they were, what was heard of r stays heard, and the step is no lower
 pub record Later (r : ℕ) (d u : Desk) : Type 0 where
@@ -19,8 +19,8 @@ pub record Later (r : ℕ) (d u : Desk) : Type 0 where
   pub roll : u .state .roll ≡ d .state .roll
   pub below : (p : ℕ) → p < r → heard u p ≡ heard d p
   pub below-sheet : (p : ℕ) → p < r → proposed u p ≡ proposed d p
-  pub below-votes : (k : Kind) (p j : ℕ) → p < r → j < 32 → name-of k u p j ≡ name-of k d p j
-  pub votes : (k : Kind) (j : ℕ) → marked (marks k d r) j ≡ true → marked (marks k u r) j ≡ true
+  pub below-votes : (v : Votes) (p j : ℕ) → p < r → j < 32 → voted v u p j ≡ voted v d p j
+  pub votes : (v : Votes) (j : ℕ) → marked (marks-of v (heard d r)) j ≡ true → marked (marks-of v (heard u r)) j ≡ true
   pub spoke : spoken (heard d r) ≡ true → spoken (heard u r) ≡ true
   pub steps : step-number (step d) ≤ step-number (step u)
 
@@ -31,8 +31,8 @@ later-same r d u en er el et es = record {
   roll = er;
   below = λ p h. rw el;
   below-sheet = λ p h. rw et;
-  below-votes = λ k p j h i. log-same d u el et k p j .1;
-  votes = λ k j h. rw (log-same d u el et k r j .0) h;
+  below-votes = λ v p j h i. log-same d u el et v p j .1;
+  votes = λ v j h. rw (log-same d u el et v r j .0) h;
   spoke = λ h. rw el h;
   steps = es;
 }
@@ -43,25 +43,25 @@ later-then r d u w a b = record {
   roll = b .roll ∙ a .roll;
   below = λ p h. b .below p h ∙ a .below p h;
   below-sheet = λ p h. b .below-sheet p h ∙ a .below-sheet p h;
-  below-votes = λ k p j h i. b .below-votes k p j h i ∙ a .below-votes k p j h i;
-  votes = λ k j h. b .votes k j (a .votes k j h);
+  below-votes = λ v p j h i. b .below-votes v p j h i ∙ a .below-votes v p j h i;
+  votes = λ v j h. b .votes v j (a .votes v j h);
   spoke = λ h. b .spoke (a .spoke h);
   steps = omega (arith, a .steps, b .steps);
 }
 
 -- ## Messages
 
-pub vote-later : (k : Kind) (d : Desk) (q i name r : ℕ) → r ≤ q → i < 32 → Later r d (hear k d q i name)
-vote-later k d q i name r low hi =
-    let b = beside-vote k d q i name in
+pub vote-later : (v : Votes) (d : Desk) (q i name r : ℕ) → r ≤ q → i < 32 → Later r d (hear-vote v d q i name)
+vote-later v d q i name r low hi =
+    let b = beside-vote v d q i name in
     record {
       rounds = b .rounds-same;
       roll = b .roll-same;
-      below = λ p h. vote-other k d q i name p (λ e. omega arith);
-      below-sheet = λ p h. vote-sheets k d q i name hi p .2;
-      below-votes = λ l p j h m. vote-names k d q i name hi l p j m (λ e. omega arith);
-      votes = λ l j. vote-kept k d q i name l r j;
-      spoke = λ h. rw (vote-sheets k d q i name hi r .0) h;
+      below = λ p h. vote-other v d q i name p (λ e. omega arith);
+      below-sheet = λ p h. vote-sheets v d q i name hi p .2;
+      below-votes = λ w p j h m. vote-names v d q i name hi w p j m (λ e. omega arith);
+      votes = λ w j. vote-kept v d q i name w r j;
+      spoke = λ h. rw (vote-sheets v d q i name hi r .0) h;
       steps = omega (arith, ap (λ (x : Stand). step-number (x .step)) (b .stand-same));
     }
 
@@ -73,8 +73,8 @@ proposal-later d q good valid name r low =
       roll = b .roll-same;
       below = λ p h. proposal-other d q good valid name p (λ e. omega arith) .0;
       below-sheet = λ p h. proposal-other d q good valid name p (λ e. omega arith) .1;
-      below-votes = λ k p j h m. proposal-votes d q good valid name k p j m .1;
-      votes = λ k j h. rw (proposal-votes d q good valid name k r 0 (omega arith) .0) h;
+      below-votes = λ v p j h m. proposal-votes d q good valid name v p j m .1;
+      votes = λ v j h. rw (proposal-votes d q good valid name v r 0 (omega arith) .0) h;
       spoke = proposal-kept d q good valid name r;
       steps = omega (arith, ap (λ (x : Stand). step-number (x .step)) (b .stand-same));
     }

@@ -18,33 +18,35 @@ use Rattle.words.proofs.Members.{In-left, In-right, In-last}
 use Rattle.words.proofs.Places.{zeros-at}
 use Rattle.roll.specs.declared.Roll.{Roll}
 use Rattle.roll.specs.Weighing.{proposer}
+use Rattle.rules.specs.declared.Votes.{Votes}
+use Rattle.rules.specs.declared.Votes.the-variants.{Prevotes, Precommits}
 use Rattle.rules.specs.declared.Asked.{Asked}
 use Rattle.rules.specs.declared.Input.{Input}
-use Rattle.rules.specs.declared.Log.{Log}
 use Rattle.rules.specs.declared.Output.{Output}
 use Rattle.rules.specs.declared.Phase.{Phase}
 use Rattle.rules.specs.declared.Phase.the-variants.{Running}
 use Rattle.rules.specs.declared.Stand.{Stand}
 use Rattle.rules.specs.declared.State.{State}
-use Rattle.rules.specs.State.{most-rounds, is-fresh, is-propose, spoken, held, entered, with-phase, with-stand, with-locked, with-asked}
-use Rattle.rules.specs.Log.{Desk, with-state, table-length, proposal-place, told, heard, proposed, hear-proposal, hear-prevote, hear-precommit}
-use Rattle.rules.specs.Doing.{current, step, own, output, send, sheet-to-propose, propose, prevote, precommit, ask-propose, ask-prevote, ask-precommit, start-round}
+use Rattle.rules.specs.State.{most-rounds, log-length, proposal-at, is-fresh, is-propose, spoken, held, entered, with-phase, with-stand, with-locked, with-asked}
+use Rattle.rules.specs.Log.{Desk, with-state, table-length, proposal-place, told, heard, proposed, message, hear-proposal, hear-vote}
+use Rattle.rules.specs.Doing.{current, step, own, output, send, sheet-to-propose, propose, vote, ask, start-round}
 use Rattle.rules.specs.Rules.{fire-49}
 use Rattle.rules.specs.Work.{worked}
-use Rattle.rules.proofs.Hearing.{Sized, proposal-other, proposal-same}
+use Rattle.rules.proofs.Telling.{Sized}
+use Rattle.rules.proofs.Hearing.{vote-marked, vote-kept, vote-sheets, proposal-votes, proposal-other, proposal-same}
 use Rattle.rules.proofs.Deeds.{holding, Deed, prevotes, precommits-nil, locks, holds, asks-prevote, asks-precommit, settles, enters}
 use Rattle.refusals.specs.Possible.{round-fits}
 use Rattle.kiosk.proofs.Accepted.{Passes, fits, accepted-fits, accepted-passes}
-use Rattle.kiosk.proofs.Taken.{Message, Taken, starts, hears-proposal, hears-prevote, hears-precommit, timer, call-keeps}
+use Rattle.kiosk.proofs.Taken.{Message, Taken, starts, hears-proposal, hears-vote, timer, call-keeps}
 use Rattle.kiosk.proofs.Kept.{round-told, worked-sound}
 use Rattle.history.specs.Histories.{Call, Past, does, after, takes, beginning, History, sent-in}
 use Rattle.history.proofs.Steady.{steady}
 use Rattle.history.proofs.Room.{rounds-stay}
 use Rattle.agreement.specs.Moves.{Out, proposal, settled, other}
 use Rattle.agreement.specs.Moves as moves
-use Rattle.agreement.specs.Honest.{Kind, pv, pc, Arrived}
+use Rattle.agreement.specs.Honest.{Arrived}
 use Rattle.market.specs.Seat.{act, acts, brings, step-number}
-use Rattle.market.proofs.Votes.{hear, beside-vote, beside-proposal, proposal-votes, vote-marked, vote-kept, vote-sheets}
+use Rattle.market.proofs.Votes.{beside-vote, beside-proposal}
 use Rattle.market.proofs.Steps.{at-propose, at-prevote, past-prevote}
 use Rattle.market.proofs.Good.{acts-more}
 use Rattle.market.proofs.Honest.{history-told, arrivals, at}
@@ -66,7 +68,7 @@ module _ (roll : Roll) (A : Arrived) where
   pub record Owns (os : List Out) (d : Desk) : Type 0 where
     pub sized : Sized most-rounds (d .state .log)
     -- rule 36's mark is unset before the precommit step
-    pub unbacked : step-number (step d) < 2 → d .state .stand .backed ≡ false
+    pub unbacked : step-number (step d) < 2 → d .state .progress .stand .backed ≡ false
     -- past the propose step the own prevote of the round is heard
     pub own-prevote : 1 ≤ step-number (step d) → marked (heard d (current d) .prevotes) (roll .own) ≡ true
     -- a proposal held was made here, or came from the round's proposer
@@ -75,7 +77,7 @@ module _ (roll : Roll) (A : Arrived) where
         ⊎ ((proposer roll q ≡ roll .own → ⊥) × A (proposer roll q) (proposal (q ∷ heard d q .valid ∷ proposed d q ∷ [])))
     -- what was proposed here is held, judged good, and of no later round
     pub offers : (q valid name : ℕ) → In (proposal (q ∷ valid ∷ name ∷ [])) os →
-        (q ≤ current d) × (is-fresh (d .state .phase) ≡ false) × (heard d q .proposal ≡ 2) × (heard d q .valid ≡ valid) × (proposed d q ≡ name)
+        (q ≤ current d) × (is-fresh (d .state .progress .phase) ≡ false) × (heard d q .proposal ≡ 2) × (heard d q .valid ≡ valid) × (proposed d q ≡ name)
 
   -- ## The invariant
 
@@ -85,7 +87,7 @@ module _ (roll : Roll) (A : Arrived) where
       ((verdict ≡ 2) × (proposer roll q ≡ roll .own) × In (offer q valid name) os) ⊎ ((proposer roll q ≡ roll .own → ⊥) × A (proposer roll q) (offer q valid name))
 
   -- the log and the table, where os is all that the kiosk put out
-  record Files-so (os : List Out) (rounds : ℕ) (r : Roll) (round : ℕ) (l : Log) (t : List ℕ) : Type 0 where
+  record Files-so (os : List Out) (rounds : ℕ) (r : Roll) (round : ℕ) (l : List ℕ) (t : List ℕ) : Type 0 where
     roll-is : r ≡ roll
     rounds-are : rounds ≡ most-rounds
     there : round < most-rounds
@@ -100,9 +102,9 @@ module _ (roll : Roll) (A : Arrived) where
 
   -- and where the kiosk stands
   record Stands-so (os : List Out) (rounds : ℕ) (s : State) (t : List ℕ) : Type 0 where
-    files : Files-so os rounds (s .roll) (s .stand .round .0) (s .log) t
-    unbacked : step-number (s .stand .step) < 2 → s .stand .backed ≡ false
-    own-prevote : 1 ≤ step-number (s .stand .step) → marked (told (s .log) (s .stand .round .0) .prevotes) (roll .own) ≡ true
+    files : Files-so os rounds (s .roll) (s .progress .stand .round .0) (s .log) t
+    unbacked : step-number (s .progress .stand .step) < 2 → s .progress .stand .backed ≡ false
+    own-prevote : 1 ≤ step-number (s .progress .stand .step) → marked (told (s .log) (s .progress .stand .round .0) .prevotes) (roll .own) ≡ true
 
   source-more : (os os′ : List Out) → ((x : Out) → In x os → In x os′) → (q verdict valid name : ℕ) → Source os q verdict valid name → Source os′ q verdict valid name
   source-more os os′ more q verdict valid name (inl h) = inl (h .0, h .1, more (offer q valid name) (h .2))
@@ -111,11 +113,11 @@ module _ (roll : Roll) (A : Arrived) where
   -- ## Messages heard
 
   -- a vote: every proposal is as it was
-  vote-files : {os : List Out} (k : Kind) (d : Desk) → Files os d → (r i name : ℕ) → i < 32 → Files os (hear k d r i name)
-  vote-files k d f r i name hi =
-      let b = beside-vote k d r i name in
-      let same = vote-sheets k d r i name hi in
-      let now : current (hear k d r i name) ≡ current d = ap (λ (x : Stand). x .round .0) (b .stand-same) in
+  vote-files : {os : List Out} (v : Votes) (d : Desk) → Files os d → (r i name : ℕ) → i < 32 → Files os (hear-vote v d r i name)
+  vote-files v d f r i name hi =
+      let b = beside-vote v d r i name in
+      let same = vote-sheets v d r i name hi in
+      let now : current (hear-vote v d r i name) ≡ current d = ap (λ (x : Stand). x .round .0) (b .stand-same) in
       record {
         roll-is = b .roll-same ∙ f .roll-is;
         rounds-are = b .rounds-same ∙ f .rounds-are;
@@ -177,7 +179,7 @@ module _ (roll : Roll) (A : Arrived) where
     own-low d f = rw (f .roll-is) mine
 
     -- an output that is no proposal
-    say : {rounds round : ℕ} {r : Roll} {l : Log} {t : List ℕ} (sent : List Output) (o : Output) → fields (act o) ≡ [] →
+    say : {rounds round : ℕ} {r : Roll} {l : List ℕ} {t : List ℕ} (sent : List Output) (o : Output) → fields (act o) ≡ [] →
         Files-so (before ++ acts sent) rounds r round l t → Files-so (before ++ acts (sent ++ o ∷ [])) rounds r round l t
     say {rounds} {round} {r} {l} {t} sent o none f =
         let os : List Out = before ++ acts sent in
@@ -196,37 +198,37 @@ module _ (roll : Roll) (A : Arrived) where
               (In-last (offer q valid name) (act o) os (act o ∷ []) refl i);
         })
 
-    prevote-goes : (name : ℕ) (d : Desk) → is-propose (step d) ≡ true → Goes d → Goes (prevote name d)
-    unfolding prevote hear-prevote
+    prevote-goes : (name : ℕ) (d : Desk) → is-propose (step d) ≡ true → Goes d → Goes (vote Prevotes name d)
+    unfolding vote message hear-vote
     prevote-goes name d s g =
         let f = g .files in
         record {
-          files = say (d .sent) (output 2 (current d) 0 name) refl (vote-files pv d f (current d) (own d) name (own-low d f));
+          files = say (d .sent) (output 2 (current d) 0 name) refl (vote-files Prevotes d f (current d) (own d) name (own-low d f));
           unbacked = λ l. g .unbacked (omega (arith, at-propose (step d) s));
-          own-prevote = λ l. subst (λ (x : Roll). marked (heard (hear-prevote d (current d) (own d) name) (current d) .prevotes) (x .own) ≡ true) (f .roll-is)
-              (vote-marked pv d (current d) (own d) name (f .sized) (f .there));
+          own-prevote = λ l. subst (λ (x : Roll). marked (heard (hear-vote Prevotes d (current d) (own d) name) (current d) .prevotes) (x .own) ≡ true) (f .roll-is)
+              (vote-marked Prevotes d (current d) (own d) name (f .sized) (f .there));
         }
 
-    precommit-goes : (name : ℕ) (d : Desk) → Files (all-out d) d → marked (heard d (current d) .prevotes) (roll .own) ≡ true → Goes (precommit name d)
-    unfolding precommit hear-precommit
+    precommit-goes : (name : ℕ) (d : Desk) → Files (all-out d) d → marked (heard d (current d) .prevotes) (roll .own) ≡ true → Goes (vote Precommits name d)
+    unfolding vote message hear-vote
     precommit-goes name d f voted = record {
-      files = say (d .sent) (output 3 (current d) 0 name) refl (vote-files pc d f (current d) (own d) name (own-low d f));
+      files = say (d .sent) (output 3 (current d) 0 name) refl (vote-files Precommits d f (current d) (own d) name (own-low d f));
       unbacked = λ l. absurd (omega (arith, l));
-      own-prevote = λ l. vote-kept pc d (current d) (own d) name pv (current d) (roll .own) voted;
+      own-prevote = λ l. vote-kept Precommits d (current d) (own d) name Prevotes (current d) (roll .own) voted;
     }
 
     -- a timer asked for, or the height ended
     note-goes : (d : Desk) (p : Phase) (a : Asked) (o : Output) → fields (act o) ≡ [] → Goes d →
-        Goes (send o (with-state (with-phase p (with-stand (with-asked a (d .state .stand)) (d .state))) d))
+        Goes (send o (with-state (with-phase p (with-stand (with-asked a (d .state .progress .stand)) (d .state))) d))
     note-goes d p a o none g = record { files = say (d .sent) o none (g .files); unbacked = g .unbacked; own-prevote = g .own-prevote }
 
     -- a round entered, in which nothing was proposed here, nor in a later one
     start-goes : (x r : ℕ) (d : Desk) → Files (all-out d) d → r < most-rounds → ((q valid name : ℕ) → In (offer q valid name) (all-out d) → q < r) → Goes (start-round x r d)
-    unfolding start-round propose ask-propose hear-proposal
+    unfolding start-round propose ask message hear-proposal
     start-goes x r d f less low =
         let e = with-state (with-stand (entered r) (d .state)) d in
         let sheet = sheet-to-propose x d in
-        let valid = d .state .valid .next in
+        let valid = d .state .progress .valid .next .0 in
         let os = all-out d in
         let turn = eqb (proposer (d .state .roll) r) (own d) in
         let fe : Files os e = record {
@@ -256,7 +258,7 @@ module _ (roll : Roll) (A : Arrived) where
         (λ t. record { files = say (d .sent) (output 4 r 0 0) refl fe; unbacked = λ l. refl; own-prevote = λ l. absurd (omega (arith, l)) })
 
     deed-goes : (x : ℕ) (d u : Desk) → Deed x d u → Goes d → Goes u
-    unfolding ask-prevote ask-precommit fire-49
+    unfolding ask fire-49
     deed-goes x d u (prevotes name s why e) g = subst Goes (sym e) (prevote-goes name d s g)
     deed-goes x d u (precommits-nil s e) g = subst Goes (sym e) (precommit-goes 0 d (g .files) (g .own-prevote (omega (arith, at-prevote (step d) s))))
     deed-goes x d u (locks name s why e) g =
@@ -282,17 +284,17 @@ module _ (roll : Roll) (A : Arrived) where
 
       -- from the round's proposer, which is another seat
       heard-proposal : Message d i → i .kind ≡ 2 → i .sender ≡ proposer (d .state .roll) (i .round .0) → spoken (heard d (i .round .0)) ≡ false
-          → Goes (hear-proposal d (i .round .0) (eqb (i .verdict) 1) (i .valid) (i .name))
+          → Goes (hear-proposal d (i .round .0) (eqb (i .verdict) 1) (i .valid .0) (i .name))
       unfolding hear-proposal
       heard-proposal m k turn unheard =
           let r = i .round .0 in
           let f = g .files in
           let from : i .sender ≡ proposer roll r = rw (f .roll-is) at turn in
           let another : i .sender ≡ roll .own → ⊥ = rw (f .roll-is) at (m .other) in
-          let arrived : A (i .sender) (offer r (i .valid) (i .name)) = new (i .sender) (offer r (i .valid) (i .name)) (rw k, refl, rw k) in
+          let arrived : A (i .sender) (offer r (i .valid .0) (i .name)) = new (i .sender) (offer r (i .valid .0) (i .name)) (rw k, refl, rw k) in
           record {
-            files = proposal-files (all-out d) d f r (eqb (i .verdict) 1) (i .valid) (i .name) (round-there m)
-                (inr (λ e. another (from ∙ e), subst (λ (j : ℕ). A j (offer r (i .valid) (i .name))) from arrived))
+            files = proposal-files (all-out d) d f r (eqb (i .verdict) 1) (i .valid .0) (i .name) (round-there m)
+                (inr (λ e. another (from ∙ e), subst (λ (j : ℕ). A j (offer r (i .valid .0) (i .name))) from arrived))
                 (λ x h. h)
                 (λ q v n h. inl (
                   h,
@@ -301,28 +303,27 @@ module _ (roll : Roll) (A : Arrived) where
                       true≢false (sym (ap (λ (y : ℕ). not (eqb y 0)) said) ∙ unheard),
                 ));
             unbacked = g .unbacked;
-            own-prevote = λ l. rw (proposal-votes d r (eqb (i .verdict) 1) (i .valid) (i .name) pv (current d) 0 (omega arith) .0) (g .own-prevote l);
+            own-prevote = λ l. rw (proposal-votes d r (eqb (i .verdict) 1) (i .valid .0) (i .name) Prevotes (current d) 0 (omega arith) .0) (g .own-prevote l);
           }
 
-      heard-vote : (k : Kind) → Message d i → Goes (hear k d (i .round .0) (i .sender) (i .name))
-      heard-vote k m =
-          let b = beside-vote k d (i .round .0) (i .sender) (i .name) in
+      heard-vote : (v : Votes) → Message d i → Goes (hear-vote v d (i .round .0) (i .sender) (i .name))
+      heard-vote v m =
+          let b = beside-vote v d (i .round .0) (i .sender) (i .name) in
           record {
-            files = rw (b .sent-same) (vote-files k d (g .files) (i .round .0) (i .sender) (i .name) (sender-low m));
+            files = rw (b .sent-same) (vote-files v d (g .files) (i .round .0) (i .sender) (i .name) (sender-low m));
             unbacked = rw (b .stand-same) (g .unbacked);
-            own-prevote = rw (b .stand-same) (λ l. vote-kept k d (i .round .0) (i .sender) (i .name) pv (current d) (roll .own) (g .own-prevote l));
+            own-prevote = rw (b .stand-same) (λ l. vote-kept v d (i .round .0) (i .sender) (i .name) Prevotes (current d) (roll .own) (g .own-prevote l));
           }
 
       -- before start nothing was proposed
-      module _ (begun : (q valid name : ℕ) → In (offer q valid name) (all-out d) → is-fresh (d .state .phase) ≡ false) where
+      module _ (begun : (q valid name : ℕ) → In (offer q valid name) (all-out d) → is-fresh (d .state .progress .phase) ≡ false) where
         taken-goes : (u : Desk) → Taken d i u → Goes u
         taken-goes u (starts fresh k e) =
             subst Goes (sym e)
             (start-goes (i .offer) 0 (with-state (with-phase Running (d .state)) d) (g .files) (omega arith)
             (λ q valid name h. absurd (true≢false (sym fresh ∙ begun q valid name h))))
         taken-goes u (hears-proposal m k turn some low n e) = subst Goes (sym e) (heard-proposal m k turn n)
-        taken-goes u (hears-prevote m k n e) = subst Goes (sym e) (heard-vote pv m)
-        taken-goes u (hears-precommit m k n e) = subst Goes (sym e) (heard-vote pc m)
+        taken-goes u (hears-vote v m k n e) = subst Goes (sym e) (heard-vote v m)
         taken-goes u (timer run late did) = deed-goes (i .offer) d u did g
 
         called : Passes d i → Goes (worked i d)
@@ -333,7 +334,7 @@ module _ (roll : Roll) (A : Arrived) where
   -- between calls
   record Rest (os : List Out) (p : Past) : Type 0 where
     stands : Stands-so os most-rounds (p .kiosk .state) (p .table)
-    begun : (q valid name : ℕ) → In (offer q valid name) os → is-fresh (p .kiosk .state .phase) ≡ false
+    begun : (q valid name : ℕ) → In (offer q valid name) os → is-fresh (p .kiosk .state .progress .phase) ≡ false
 
   rest-begins : Rest [] (beginning roll)
   unfolding told
@@ -344,8 +345,8 @@ module _ (roll : Roll) (A : Arrived) where
         rounds-are = refl;
         there = omega arith;
         places = length-replicate {A = ℕ} table-length 0;
-        sized = record { prevotes = refl; precommits = refl; proposals = refl; valids = refl };
-        sheets = λ q t. absurd (false≢true (sym (ap (λ (n : ℕ). not (eqb n 0)) (zeros-at most-rounds q)) ∙ t));
+        sized = record { size = refl };
+        sheets = λ q t. absurd (false≢true (sym (ap (λ (n : ℕ). not (eqb n 0)) (zeros-at log-length (proposal-at q))) ∙ t));
         offers = λ q valid name h. absurd h;
       };
       unbacked = λ l. refl;
@@ -361,7 +362,7 @@ module _ (roll : Roll) (A : Arrived) where
       let k = p .kiosk .state in
       let all : os ++ [] ≡ os = append-nil os in
       let g : Stands-so (os ++ []) most-rounds k (p .table) = subst (λ (x : List Out). Stands-so x most-rounds k (p .table)) (sym all) (q .stands) in
-      let b = subst (λ (x : List Out). (q valid name : ℕ) → In (offer q valid name) x → is-fresh (k .phase) ≡ false) (sym all) (q .begun) in
+      let b = subst (λ (x : List Out). (q valid name : ℕ) → In (offer q valid name) x → is-fresh (k .progress .phase) ≡ false) (sym all) (q .begun) in
       record {
         stands = rw (rounds-stay p i) at (called few own-seat os (at p) i g new b pass);
         begun = λ r valid name h. worked-sound (at p) i (accepted-fits (p .kiosk .used) (p .kiosk) (p .table) i t) pass refl .started;

@@ -15,10 +15,10 @@ use Rattle.words.specs.Members.{In}
 use Rattle.words.proofs.Choice.{by-test, by-cases, and-left, and-right}
 use Rattle.roll.specs.declared.Roll.{Roll}
 use Rattle.rules.specs.declared.Input.{Input}
-use Rattle.rules.specs.Ready.{packed}
+use Rattle.rules.specs.Sent.{packed}
 use Rattle.journal.specs.Layout.{group-bytes, group-length, roomy}
 use Rattle.journal.proofs.Roundtrip.{length-group}
-use Rattle.answers.specs.Answers.{is-accepted}
+use Rattle.refusals.specs.Answers.{is-accepted}
 use Rattle.refusals.specs.Refusals.{refused-input}
 use Rattle.kiosk.specs.Calls.{Called, put}
 use Rattle.history.specs.Histories.{Call, Past, does, after, takes, beginning, History, Tail, told-none, none, written, sent-in, calls-of}

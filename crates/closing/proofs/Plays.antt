@@ -12,35 +12,38 @@ use lib.ListN.{length}
 use borrow.Author.Tests.{eqb-true, not-false}
 use Rattle.words.specs.Marks.{marked}
 use Rattle.words.specs.Members.{In}
-use Rattle.words.proofs.Choice.{by-cases, or-case}
+use Rattle.words.proofs.Choice.{by-cases, or-case, or-so}
 use Rattle.roll.specs.declared.Roll.{Roll}
 use Rattle.roll.specs.Weighing.{proposer}
+use Rattle.rules.specs.declared.Votes.{Votes}
+use Rattle.rules.specs.declared.Votes.the-variants.{Prevotes, Precommits}
 use Rattle.rules.specs.declared.Input.{Input}
 use Rattle.rules.specs.declared.Phase.the-variants.{Running, Settled}
-use Rattle.rules.specs.State.{most-rounds, is-settled, spoken}
+use Rattle.rules.specs.Kinds.{vote-in}
+use Rattle.rules.specs.State.{most-rounds, is-settled, marks-of, spoken}
 use Rattle.rules.specs.Log.{Desk, heard}
 use Rattle.rules.specs.Doing.{step}
-use Rattle.answers.specs.Answers.{is-accepted}
+use Rattle.refusals.specs.Answers.{is-accepted}
 use Rattle.refusals.specs.Refusals.{is-proposal, is-vote, fields-fit, place-heard}
 use Rattle.kiosk.proofs.Accepted.{Passes, accepted-passes, accepted-fields}
 use Rattle.history.specs.Histories.{Past, does, after, takes}
 use Rattle.history.proofs.Replies.{code-roomy}
 use Rattle.agreement.specs.Weigh.{Seats}
 use Rattle.agreement.specs.Moves.{Out, prevote}
-use Rattle.agreement.specs.Honest.{pv, pc}
 use Rattle.agreement.specs.System.{Msg, write, change, send, Sound}
 use Rattle.agreement.specs.System as system
 use Rattle.agreement.proofs.System.{change-wider, on-so, write-keeps, change-keeps, change-all, send-all}
 use Rattle.market.specs.Seat.{acts, message, step-number}
 use Rattle.market.specs.Kiosks.{May-put, kiosk-of}
 use Rattle.market.specs.Demand3.{roll-at, scale, World, Leads, here, further}
+use Rattle.market.proofs.Votes.{kind-of}
 use Rattle.market.proofs.Honest.{at}
 use Rattle.market.proofs.Each.{Terms, law, shared, Such, All, recalls, more-taken, more-past, more-sent}
 use Rattle.closing.specs.Waves.{Keeps, Delivery, to, Carries, Delivered, Refuses, Play, begin, accepts, refuses, changes, sends}
 use Rattle.closing.specs.Closing.{Proposal, turn-of, offer-of, Two-waves, May-arrive}
 use Rattle.closing.proofs.Situation.{Ground, Tells, Waits, Fair}
 use Rattle.closing.proofs.Later.{Later}
-use Rattle.closing.proofs.Messages.{says-prevote, says-precommit, brings-proposal, brings-prevote}
+use Rattle.closing.proofs.Messages.{says-vote, brings-proposal, brings-vote}
 use Rattle.closing.proofs.Hearing.{call-next, refused-held, heard-later}
 use Rattle.closing.proofs.Rest.{past-proposal, past-prevotes}
 
@@ -66,7 +69,7 @@ module _ {powers : List ℕ} {height : ℕ} {keeps : Seats} (m : Terms powers he
 
   -- it holds the message, or has settled
   abbrev pub Held : Desk → Input → Type 0
-  Held d x = (d .state .phase ≡ Settled (record { 0 = g .round })) ⊎ (place-heard d x ≡ true)
+  Held d x = (d .state .progress .phase ≡ Settled (record { 0 = g .round })) ⊎ (place-heard d x ≡ true)
 
   -- a message of the round from another seat, as it is sent; the proposal from its proposer
   pub record Meant (i : ℕ) (x : Input) : Type 0 where
@@ -117,34 +120,31 @@ module _ {powers : List ℕ} {height : ℕ} {keeps : Seats} (m : Terms powers he
   }
 
   module _ (ds : List Delivery) (i : ℕ) (ki : Keeps powers keeps i) (os : List Out) (p : Past) (k : Keeps-on ds i os p) where
-    running-not : p .kiosk .state .phase ≡ Running → p .kiosk .state .phase ≡ Settled (record { 0 = g .round }) → ⊥
+    running-not : p .kiosk .state .progress .phase ≡ Running → p .kiosk .state .progress .phase ≡ Settled (record { 0 = g .round }) → ⊥
     running-not a b = false≢true (ap is-settled (sym a ∙ b))
 
     -- the step of one that runs, or of one that has settled
-    stepping : (n : ℕ) → n ≤ 2 → (p .kiosk .state .phase ≡ Running → n ≤ step-number (step (at p))) → n ≤ step-number (step (at p))
+    stepping : (n : ℕ) → n ≤ 2 → (p .kiosk .state .progress .phase ≡ Running → n ≤ step-number (step (at p))) → n ≤ step-number (step (at p))
     stepping n l f = ⊎-elim f (λ e. omega (arith, e .1)) (k .waits-on .stands .going)
 
-    spoken-of : p .kiosk .state .phase ≡ Running → (x : Input) → x .kind ≡ 2 → x .round .0 ≡ g .round → Held (at p) x → spoken (heard (at p) (g .round)) ≡ true
+    spoken-of : p .kiosk .state .progress .phase ≡ Running → (x : Input) → x .kind ≡ 2 → x .round .0 ≡ g .round → Held (at p) x → spoken (heard (at p) (g .round)) ≡ true
     unfolding place-heard
     spoken-of run x e r (inl s) = absurd (running-not run s)
     spoken-of run x e r (inr h) = rw (e, r) at h
 
-    prevote-of : p .kiosk .state .phase ≡ Running → (x : Input) (j : ℕ) → x .kind ≡ 3 → x .round .0 ≡ g .round → x .sender ≡ j → Held (at p) x → marked (heard (at p) (g .round) .prevotes) j ≡ true
+    pub vote-of : (v : Votes) → p .kiosk .state .progress .phase ≡ Running → (x : Input) (j : ℕ) → x .kind ≡ vote-in v → x .round .0 ≡ g .round → x .sender ≡ j → Held (at p) x →
+        marked (marks-of v (heard (at p) (g .round))) j ≡ true
     unfolding place-heard
-    prevote-of run x j e r f (inl s) = absurd (running-not run s)
-    prevote-of run x j e r f (inr h) = rw (e, r, f) at h
-
-    pub precommit-of : p .kiosk .state .phase ≡ Running → (x : Input) (j : ℕ) → x .kind ≡ 4 → x .round .0 ≡ g .round → x .sender ≡ j → Held (at p) x → marked (heard (at p) (g .round) .precommits) j ≡ true
-    unfolding place-heard
-    precommit-of run x j e r f (inl s) = absurd (running-not run s)
-    precommit-of run x j e r f (inr h) = rw (e, r, f) at h
+    vote-of v run x j e r f (inl s) = absurd (running-not run s)
+    vote-of Prevotes run x j e r f (inr h) = rw (e, r, f) at h
+    vote-of Precommits run x j e r f (inr h) = rw (e, r, f) at h
 
     -- after the first wave it has prevoted
     pub after-proposal : (i ≢ turn → Delivered powers height ds i turn (offer-of g)) → 1 ≤ step-number (step (at p))
     after-proposal came = stepping 1 (omega arith) (λ run.
         past-proposal (roll i) keeps g (base i ki) (at p) (k .waits-on .stands) (k .waits-on .rest) run (go run (ℕ-discrete i turn)))
       where
-        go : p .kiosk .state .phase ≡ Running → Dec (i ≡ turn) → spoken (heard (at p) (g .round)) ≡ true
+        go : p .kiosk .state .progress .phase ≡ Running → Dec (i ≡ turn) → spoken (heard (at p) (g .round)) ≡ true
         go run (yes e) = k .own-offer e
         go run (no n) =
             let c = came n in
@@ -159,13 +159,13 @@ module _ {powers : List ℕ} {height : ℕ} {keeps : Seats} (m : Terms powers he
         (λ e. e .1)
         (k .waits-on .stands .going)
       where
-        go : p .kiosk .state .phase ≡ Running → (j : ℕ) → Keeps powers keeps j → Dec (j ≡ i) → marked (heard (at p) (g .round) .prevotes) j ≡ true
-        go run j kj (yes e) = rw e (k .waits-on .stands .own-prevote late)
+        go : p .kiosk .state .progress .phase ≡ Running → (j : ℕ) → Keeps powers keeps j → Dec (j ≡ i) → marked (heard (at p) (g .round) .prevotes) j ≡ true
+        go run j kj (yes e) = rw e (k .waits-on .stands .own-votes Prevotes late)
         go run j kj (no n) =
             let c = came j kj n in
             let x = c .1 .0 in
-            let b = brings-prevote x (c .1 .2 .brings-it .0) (g .round) (c .0) (c .1 .2 .brings-it .2) in
-            prevote-of run x j (b .0) (b .1) (c .1 .2 .brings-it .1)
+            let b = brings-vote x (c .1 .2 .brings-it .0) Prevotes (g .round) (c .0) (c .1 .2 .brings-it .2) in
+            vote-of Prevotes run x j (b .0) (b .1) (c .1 .2 .brings-it .1)
             (k .held x (c .1 .1) (meant-vote i j 3 x _ n (c .1 .2) (b .0, b .1) (λ z. omega (arith, z))))
 
     both-waves : Two-waves powers height keeps g ds i → step-number (step (at p)) ≡ 2
@@ -201,23 +201,20 @@ module _ {powers : List ℕ} {height : ℕ} {keeps : Seats} (m : Terms powers he
         rw roll-is at f
 
     -- a proposal of a rule-keeping kiosk is the round's
-    the-proposal : is-proposal x ≡ true → keeps (x .sender) ≡ true → (x .round .0 ≡ g .round) × (x .valid ≡ g .valid) × (x .name ≡ g .name)
+    the-proposal : is-proposal x ≡ true → keeps (x .sender) ≡ true → (x .round .0 ≡ g .round) × (x .valid .0 ≡ g .valid) × (x .name ≡ g .name)
     the-proposal e kj =
         ⊎-elim (λ z. absurd (omega (arith, z, may .2))) (λ z. z)
-        (told-there kj .proposals (x .round .0) (x .valid) (x .name) (rw e at (put-out-there (rw e) kj)))
+        (told-there kj .proposals (x .round .0) (x .valid .0) (x .name) (rw e at (put-out-there (rw e) kj)))
 
     -- a vote of a rule-keeping kiosk is of the round, and for its proposal
     the-vote : is-vote x ≡ true → keeps (x .sender) ≡ true → (x .round .0 ≡ g .round) × (x .name ≡ g .name)
-    the-vote v kj = ⊎-elim (λ e. prevoting (eqb-true (x .kind) 3 e)) (λ e. precommitting (eqb-true (x .kind) 4 e)) (or-case (eqb (x .kind) 3) (eqb (x .kind) 4) v)
+    the-vote v kj = ⊎-elim (λ e. voting Prevotes (eqb-true (x .kind) 3 e)) (λ e. voting Precommits (eqb-true (x .kind) 4 e)) (or-case (eqb (x .kind) 3) (eqb (x .kind) 4) v)
       where
-        either : (x .round .0 < g .round) ⊎ ((x .round .0 ≡ g .round) × (x .name ≡ g .name)) → (x .round .0 ≡ g .round) × (x .name ≡ g .name)
-        either z = ⊎-elim (λ z. absurd (omega (arith, z, may .2))) (λ z. z) z
-
-        prevoting : x .kind ≡ 3 → (x .round .0 ≡ g .round) × (x .name ≡ g .name)
-        prevoting e = either (told-there kj .votes pv (x .round .0) (x .name) (subst (λ (o : Out). In o (outs kj)) (says-prevote x e) (put-out-there (rw e) kj)))
-
-        precommitting : x .kind ≡ 4 → (x .round .0 ≡ g .round) × (x .name ≡ g .name)
-        precommitting e = either (told-there kj .votes pc (x .round .0) (x .name) (subst (λ (o : Out). In o (outs kj)) (says-precommit x e) (put-out-there (rw e) kj)))
+        voting : (w : Votes) → x .kind ≡ vote-in w → (x .round .0 ≡ g .round) × (x .name ≡ g .name)
+        voting w e =
+            ⊎-elim (λ z. absurd (omega (arith, z, may .2))) (λ z. z)
+            (told-there kj .votes (kind-of w) (x .round .0) (x .name)
+            (subst (λ (o : Out). In o (outs kj)) (says-vote w x e) (put-out-there (or-so (is-proposal x) (is-vote x) (inr v)) kj)))
 
     fair : Fair (roll i) keeps g (at p) x
     fair = record {

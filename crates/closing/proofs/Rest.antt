@@ -11,29 +11,30 @@ use Rattle.words.specs.Choice.{first-of}
 use Rattle.words.specs.Marks.{marked}
 use Rattle.words.proofs.Choice.{lowest-least}
 use Rattle.roll.specs.declared.Roll.{Roll}
+use Rattle.rules.specs.declared.Votes.{Votes}
+use Rattle.rules.specs.declared.Votes.the-variants.{Prevotes, Precommits}
 use Rattle.rules.specs.declared.Phase.the-variants.{Running}
 use Rattle.rules.specs.declared.Rule.the-variants.{Nothing}
-use Rattle.rules.specs.State.{spoken, good}
-use Rattle.rules.specs.Log.{Desk, heard, proposed, good-sheets, prevote-power-for}
+use Rattle.rules.specs.State.{marks-of, spoken, good}
+use Rattle.rules.specs.Log.{Desk, heard, proposed, voted, good-sheets, power-for}
 use Rattle.rules.specs.Doing.{step}
 use Rattle.rules.specs.Rules.{is-large, applies-22, applies-28, applies-36, applies-49, applies-55, backed-sheet, closing-sheet, closing-round, first-rule}
-use Rattle.rules.proofs.ByRule.{Quiet, none-applies}
+use Rattle.rules.proofs.ByRule.{Idle, none-applies}
 use Rattle.agreement.specs.Weigh.{Seats}
-use Rattle.agreement.specs.Honest.{Kind, pv, pc}
 use Rattle.market.specs.Seat.{step-number}
-use Rattle.market.proofs.Votes.{marks, name-of, power-for, large-for}
+use Rattle.market.proofs.Votes.{large-for}
 use Rattle.market.proofs.Steps.{step-most, propose-at, prevote-at}
 use Rattle.closing.specs.Closing.{Proposal}
 use Rattle.closing.proofs.Situation.{Ground, Holds, Stands}
 use Rattle.closing.proofs.Weights.{holding-large, sole-found}
 
 module _ (roll : Roll) (keeps : Seats) (g : Proposal) (b : Ground roll keeps g) (d : Desk) (s : Stands roll keeps g d) (rest : first-rule d ≡ Nothing)
-    (running : d .state .phase ≡ Running) where
+    (running : d .state .progress .phase ≡ Running) where
   h : Holds roll keeps g d
   h = s .holds
 
-  quiet : Quiet d × (applies-49 d ≡ false) × (applies-55 d ≡ false)
-  quiet = none-applies d (rw running) rest
+  idle : Idle d × (applies-49 d ≡ false) × (applies-55 d ≡ false)
+  idle = none-applies d (rw running) rest
 
   -- ## Rules 22 and 28
 
@@ -42,7 +43,7 @@ module _ (roll : Roll) (keeps : Seats) (g : Proposal) (b : Ground roll keeps g) 
   now-22 e sp z = rw (s .round, propose-at (step d) e, sp, h .sheet sp .1, z)
 
   now-28 : step-number (step d) ≡ 0 → spoken (heard d (g .round)) ≡ true → 1 ≤ g .valid → applies-28 d ≡ true
-  unfolding applies-28 prevote-power-for
+  unfolding applies-28 power-for
   now-28 e sp z =
       let x = h .sheet sp in
       rw (s .round, propose-at (step d) e, sp, x .1, x .2, le-leb 1 (g .valid) z, le-leb (g .valid) (g .round) (b .low)) (h .old z)
@@ -53,28 +54,28 @@ module _ (roll : Roll) (keeps : Seats) (g : Proposal) (b : Ground roll keeps g) 
     where
       go : Dec (step-number (step d) ≡ 0) → Dec (g .valid ≡ 0) → 1 ≤ step-number (step d)
       go (no n) z = omega (arith, n)
-      go (yes e) (yes z) = absurd (true≢false (sym (now-22 e sp z) ∙ quiet .0 .no-22))
-      go (yes e) (no z) = absurd (true≢false (sym (now-28 e sp (omega (arith, z))) ∙ quiet .0 .no-28))
+      go (yes e) (yes z) = absurd (true≢false (sym (now-22 e sp z) ∙ idle .0 .no-22))
+      go (yes e) (no z) = absurd (true≢false (sym (now-28 e sp (omega (arith, z))) ∙ idle .0 .no-28))
 
   -- ## Rules 36 and 49
 
   -- every rule-keeping kiosk's vote of the round is held
-  abbrev All-in : Kind → Type 0
-  All-in k = (j : ℕ) → j < roll .kiosks → keeps j ≡ true → marked (marks k d (g .round)) j ≡ true
+  abbrev All-in : Votes → Type 0
+  All-in v = (j : ℕ) → j < roll .kiosks → keeps j ≡ true → marked (marks-of v (heard d (g .round))) j ≡ true
 
   -- what both look for is the proposal then
-  found : (k : Kind) → 1 ≤ step-number (step d) → All-in k → first-of (good-sheets d (g .round)) (λ name. is-large d (power-for k d (g .round) name)) ≡ g .name
+  found : (v : Votes) → 1 ≤ step-number (step d) → All-in v → first-of (good-sheets d (g .round)) (λ name. is-large d (power-for v d (g .round) name)) ≡ g .name
   unfolding good-sheets
-  found k l all =
+  found v l all =
       let x = h .sheet (s .spoke l) in
       let r = g .round in
-      let big = holding-large roll keeps (b .few) (λ i. marked (marks k d r) i && eqb (name-of k d r i) (proposed d r))
-      (λ j m kj. rw (all j m kj, h .votes k j m kj (all j m kj), x .2, eq-eqb (g .name) (g .name) refl)) in
-      sole-found (good (heard d r)) (proposed d r) (λ name. is-large d (power-for k d r name)) (rw (x .0)) (large-for k d r (proposed d r) (h .roll-is) ∙ big) ∙ x .2
+      let big = holding-large roll keeps (b .few) (λ i. marked (marks-of v (heard d r)) i && eqb (voted v d r i) (proposed d r))
+      (λ j m kj. rw (all j m kj, h .votes v j m kj (all j m kj), x .2, eq-eqb (g .name) (g .name) refl)) in
+      sole-found (good (heard d r)) (proposed d r) (λ name. is-large d (power-for v d r name)) (rw (x .0)) (large-for v d r (proposed d r) (h .roll-is) ∙ big) ∙ x .2
 
-  now-36 : step-number (step d) ≡ 1 → All-in pv → applies-36 d ≡ true
-  unfolding applies-36 backed-sheet good-sheets prevote-power-for
-  now-36 e all = rw (s .round, prevote-at (step d) e, s .unbacked (omega (arith, e)), found pv (omega (arith, e)) all, ne-eqb (g .name) 0 (b .some))
+  now-36 : step-number (step d) ≡ 1 → All-in Prevotes → applies-36 d ≡ true
+  unfolding applies-36 backed-sheet good-sheets power-for
+  now-36 e all = rw (s .round, prevote-at (step d) e, s .unbacked (omega (arith, e)), found Prevotes (omega (arith, e)) all, ne-eqb (g .name) 0 (b .some))
 
   -- one that holds all rule-keeping kiosks' prevotes has precommitted
   pub past-prevotes : 1 ≤ step-number (step d) → ((j : ℕ) → j < roll .kiosks → keeps j ≡ true → marked (heard d (g .round) .prevotes) j ≡ true) → step-number (step d) ≡ 2
@@ -82,11 +83,11 @@ module _ (roll : Roll) (keeps : Seats) (g : Proposal) (b : Ground roll keeps g) 
     where
       go : Dec (step-number (step d) ≡ 1) → step-number (step d) ≡ 2
       go (no n) = omega (arith, n, l, step-most (step d))
-      go (yes e) = absurd (true≢false (sym (now-36 e all) ∙ quiet .0 .no-36))
+      go (yes e) = absurd (true≢false (sym (now-36 e all) ∙ idle .0 .no-36))
 
-  now-49 : 1 ≤ step-number (step d) → All-in pc → closing-sheet d (g .round) ≡ g .name
+  now-49 : 1 ≤ step-number (step d) → All-in Precommits → closing-sheet d (g .round) ≡ g .name
   unfolding closing-sheet
-  now-49 l all = found pc l all
+  now-49 l all = found Precommits l all
 
   -- and one that holds all their precommits does not run on
   pub past-precommits : 1 ≤ step-number (step d) → ((j : ℕ) → j < roll .kiosks → keeps j ≡ true → marked (heard d (g .round) .precommits) j ≡ true) → ⊥
@@ -95,4 +96,4 @@ module _ (roll : Roll) (keeps : Seats) (g : Proposal) (b : Ground roll keeps g) 
       let t : not (eqb (closing-sheet d (g .round)) 0) ≡ true = rw (now-49 l all, ne-eqb (g .name) 0 (b .some)) in
       let m = lowest-least (d .rounds) (λ r. not (eqb (closing-sheet d r) 0)) (g .round) (rw (h .rounds-are) (b .there)) t in
       let now : applies-49 d ≡ true = lt-ltb (closing-round d) (d .rounds) (omega (arith, m, h .rounds-are, b .there)) in
-      true≢false (sym now ∙ quiet .1)
+      true≢false (sym now ∙ idle .1)

@@ -10,21 +10,23 @@ use Rattle.words.specs.Marks.{marked}
 use Rattle.words.specs.Members.{In}
 use Rattle.roll.specs.declared.Roll.{Roll}
 use Rattle.roll.specs.Weighing.{power-of, total-of, proposer}
+use Rattle.rules.specs.declared.Votes.{Votes}
+use Rattle.rules.specs.declared.Votes.the-variants.{Prevotes}
 use Rattle.rules.specs.declared.Input.{Input}
 use Rattle.rules.specs.declared.Phase.the-variants.{Running, Settled}
 use Rattle.rules.specs.declared.Rule.the-variants.{Nothing}
-use Rattle.rules.specs.State.{most-rounds, spoken}
-use Rattle.rules.specs.Log.{Desk, table-length, heard, proposed, prevote-power-for}
-use Rattle.rules.specs.Doing.{current, step}
+use Rattle.rules.specs.State.{most-rounds, marks-of, spoken}
+use Rattle.rules.specs.Log.{Desk, table-length, heard, proposed, voted, power-for}
+use Rattle.rules.specs.Doing.{current, step, step-of}
 use Rattle.rules.specs.Rules.{is-large, closing-sheet, first-rule}
-use Rattle.rules.proofs.Hearing.{Sized}
+use Rattle.rules.proofs.Telling.{Sized}
 use Rattle.refusals.specs.Refusals.{is-proposal, is-vote, is-timer}
 use Rattle.history.specs.Histories.{Past}
 use Rattle.agreement.specs.Weigh.{Seats}
-use Rattle.agreement.specs.Moves.{Out, proposal, prevote, precommit}
+use Rattle.agreement.specs.Moves.{Out, proposal}
 use Rattle.agreement.specs.Honest.{Kind, said}
 use Rattle.market.specs.Seat.{acts, step-number}
-use Rattle.market.proofs.Votes.{marks, name-of}
+use Rattle.market.proofs.Votes.{kind-of}
 use Rattle.market.proofs.Honest.{at}
 use Rattle.closing.specs.Closing.{Proposal}
 
@@ -48,18 +50,17 @@ module _ (roll : Roll) (keeps : Seats) (g : Proposal) where
     pub sized : Sized most-rounds (d .state .log)
     -- earlier rounds: no sheet can be settled there, and large prevotes of the valid round, if any, are held
     pub closed-below : (q : ℕ) → q < g .round → closing-sheet d q ≡ 0
-    pub old : 1 ≤ g .valid → is-large d (prevote-power-for d (pred (g .valid)) (g .name)) ≡ true
+    pub old : 1 ≤ g .valid → is-large d (power-for Prevotes d (pred (g .valid)) (g .name)) ≡ true
     -- later rounds
     pub ahead-proposals : (q : ℕ) → g .round < q → spoken (heard d q) ≡ true → keeps (proposer roll q) ≡ false
-    pub ahead-votes : (k : Kind) (q j : ℕ) → g .round < q → j < roll .kiosks → marked (marks k d q) j ≡ true → keeps j ≡ false
+    pub ahead-votes : (v : Votes) (q j : ℕ) → g .round < q → j < roll .kiosks → marked (marks-of v (heard d q)) j ≡ true → keeps j ≡ false
     -- the round
     pub sheet : spoken (heard d (g .round)) ≡ true → (heard d (g .round) .proposal ≡ 2) × (heard d (g .round) .valid ≡ g .valid) × (proposed d (g .round) ≡ g .name)
-    pub votes : (k : Kind) (j : ℕ) → j < roll .kiosks → keeps j ≡ true → marked (marks k d (g .round)) j ≡ true → name-of k d (g .round) j ≡ g .name
+    pub votes : (v : Votes) (j : ℕ) → j < roll .kiosks → keeps j ≡ true → marked (marks-of v (heard d (g .round))) j ≡ true → voted v d (g .round) j ≡ g .name
 
   -- all that the kiosk put out, where it stands at step n: of the round its proposal and votes for it, and nothing of later rounds
   pub record Tells (n : ℕ) (os : List Out) : Type 0 where
-    pub said-prevote : 1 ≤ n → In (prevote (g .round) (g .name)) os
-    pub said-precommit : n ≡ 2 → In (precommit (g .round) (g .name)) os
+    pub said-votes : (v : Votes) → step-number (step-of v) ≤ n → In (said (kind-of v) (g .round) (g .name)) os
     pub votes : (k : Kind) (q name : ℕ) → In (said k q name) os → (q < g .round) ⊎ ((q ≡ g .round) × (name ≡ g .name))
     pub proposals : (q valid name : ℕ) → In (proposal (q ∷ valid ∷ name ∷ [])) os → (q < g .round) ⊎ ((q ≡ g .round) × (valid ≡ g .valid) × (name ≡ g .name))
 
@@ -67,13 +68,12 @@ module _ (roll : Roll) (keeps : Seats) (g : Proposal) where
   pub record Stands (d : Desk) : Type 0 where
     pub holds : Holds d
     pub round : current d ≡ g .round
-    pub going : (d .state .phase ≡ Running) ⊎ ((d .state .phase ≡ Settled (record { 0 = g .round })) × (step-number (step d) ≡ 2))
-    pub lock : (d .state .locked .next ≤ g .valid) ⊎ (d .state .locked .name ≡ g .name)
+    pub going : (d .state .progress .phase ≡ Running) ⊎ ((d .state .progress .phase ≡ Settled (record { 0 = g .round })) × (step-number (step d) ≡ 2))
+    pub lock : (d .state .progress .locked .next .0 ≤ g .valid) ⊎ (d .state .progress .locked .name ≡ g .name)
     pub early : step-number (step d) < 2 → (j : ℕ) → j < roll .kiosks → marked (heard d (g .round) .precommits) j ≡ true → keeps j ≡ false
-    pub unbacked : step-number (step d) < 2 → d .state .stand .backed ≡ false
+    pub unbacked : step-number (step d) < 2 → d .state .progress .stand .backed ≡ false
     pub spoke : 1 ≤ step-number (step d) → spoken (heard d (g .round)) ≡ true
-    pub own-prevote : 1 ≤ step-number (step d) → marked (heard d (g .round) .prevotes) (roll .own) ≡ true
-    pub own-precommit : step-number (step d) ≡ 2 → marked (heard d (g .round) .precommits) (roll .own) ≡ true
+    pub own-votes : (v : Votes) → step-number (step-of v) ≤ step-number (step d) → marked (marks-of v (heard d (g .round))) (roll .own) ≡ true
 
   -- in the middle of a call, where `before` was put out before it
   pub record Acts (before : List Out) (d : Desk) : Type 0 where
@@ -90,7 +90,7 @@ module _ (roll : Roll) (keeps : Seats) (g : Proposal) where
   pub record Fair (d : Desk) (x : Input) : Type 0 where
     pub no-timer : is-timer x ≡ false
     pub not-earlier : g .round ≤ x .round .0
-    pub proposal-now : is-proposal x ≡ true → x .round .0 ≡ g .round → (x .verdict ≡ 1) × (x .valid ≡ g .valid) × (x .name ≡ g .name)
+    pub proposal-now : is-proposal x ≡ true → x .round .0 ≡ g .round → (x .verdict ≡ 1) × (x .valid .0 ≡ g .valid) × (x .name ≡ g .name)
     pub proposal-ahead : is-proposal x ≡ true → g .round < x .round .0 → keeps (proposer roll (x .round .0)) ≡ false
     pub vote-now : is-vote x ≡ true → keeps (x .sender) ≡ true → (x .round .0 ≡ g .round) × (x .name ≡ g .name)
     pub late : x .kind ≡ 4 → keeps (x .sender) ≡ true → step-number (step d) ≡ 2

@@ -1,7 +1,7 @@
 -- What rule-breakers weigh: a set of them is never some, let alone large; all rule-keeping seats together are large. And what a round's
 -- closing sheet and votes weigh where nothing of the round changed. Assumes nothing.
 use Prim.Native.Nat.{ℕ, zero, suc, _+_, _*_, _<_}
-use mathlib.Core.Path.{_≡_, refl, sym, ap, _∙_}
+use mathlib.Core.Path.{_≡_, refl, ap, _∙_}
 use mathlib.Core.List.{[], _∷_}
 use mathlib.Core.Bool.{Bool, true, false, _&&_, not}
 use native.Mathlib.Omega.{arith}
@@ -13,11 +13,12 @@ use Rattle.words.specs.Marks.{marked}
 use Rattle.roll.specs.declared.Roll.{Roll}
 use Rattle.roll.specs.Weighing.{large, some, power-below, power-of, total-of}
 use Rattle.roll.proofs.Weighing.{power-ext, power-mono}
-use Rattle.rules.specs.Log.{Desk, heard, proposed, precommitted, good-sheets, precommit-power-for}
+use Rattle.rules.specs.declared.Votes.{Votes}
+use Rattle.rules.specs.declared.Votes.the-variants.{Precommits}
+use Rattle.rules.specs.State.{marks-of}
+use Rattle.rules.specs.Log.{Desk, heard, proposed, voted, good-sheets, power-for}
 use Rattle.rules.specs.Rules.{closing-sheet}
 use Rattle.agreement.specs.Weigh.{Seats}
-use Rattle.agreement.specs.Honest.{Kind, pc}
-use Rattle.market.proofs.Votes.{marks, name-of, power-for, power-for-is, marks-same}
 
 module _ (roll : Roll) (keeps : Seats) (few : 3 * power-of roll (λ i. not (keeps i)) < total-of roll) where
   module _ (f : ℕ → Bool) (breaks : (j : ℕ) → j < roll .kiosks → f j ≡ true → keeps j ≡ false) where
@@ -57,19 +58,18 @@ sole-found b x test e t = rw (e, t)
 
 -- a round of which nothing changed
 module _ (d u : Desk) (q : ℕ) (er : u .state .roll ≡ d .state .roll) (eh : heard u q ≡ heard d q) where
-  pub votes-same : (k : Kind) (name : ℕ) → ((j : ℕ) → j < d .state .roll .kiosks → name-of k u q j ≡ name-of k d q j) → power-for k u q name ≡ power-for k d q name
-  votes-same k name same =
-      power-for-is k u q name
-      ∙ ap (λ (r : Roll). power-of r (λ i. marked (marks k u q) i && eqb (name-of k u q i) name)) er
+  pub votes-same : (v : Votes) (name : ℕ) → ((j : ℕ) → j < d .state .roll .kiosks → voted v u q j ≡ voted v d q j) → power-for v u q name ≡ power-for v d q name
+  unfolding power-for
+  votes-same v name same =
+      ap (λ (r : Roll). power-of r (λ i. marked (marks-of v (heard u q)) i && eqb (voted v u q i) name)) er
       ∙ power-ext (d .state .roll .powers)
-      (λ i. marked (marks k u q) i && eqb (name-of k u q i) name)
-      (λ i. marked (marks k d q) i && eqb (name-of k d q i) name)
+      (λ i. marked (marks-of v (heard u q)) i && eqb (voted v u q i) name)
+      (λ i. marked (marks-of v (heard d q)) i && eqb (voted v d q i) name)
       (d .state .roll .kiosks)
-      (λ i seat. rw (marks-same k d u q eh, same i seat))
-      ∙ sym (power-for-is k d q name)
+      (λ i seat. rw (eh, same i seat))
 
-  pub closing-same : proposed u q ≡ proposed d q → ((j : ℕ) → j < d .state .roll .kiosks → precommitted u q j ≡ precommitted d q j) → closing-sheet u q ≡ closing-sheet d q
+  pub closing-same : proposed u q ≡ proposed d q → ((j : ℕ) → j < d .state .roll .kiosks → voted Precommits u q j ≡ voted Precommits d q j) → closing-sheet u q ≡ closing-sheet d q
   unfolding closing-sheet good-sheets
   closing-same es same =
-      let all : (name : ℕ) → precommit-power-for u q name ≡ precommit-power-for d q name = λ name. votes-same pc name same in
+      let all : (name : ℕ) → power-for Precommits u q name ≡ power-for Precommits d q name = λ name. votes-same Precommits name same in
       simp all (rw (eh, es, er))

@@ -6,11 +6,12 @@ use mathlib.Core.Logic.{_≢_, _⊎_}
 use mathlib.Core.List.{List, [], _∷_}
 use mathlib.Core.Bool.{true, false}
 use Rattle.roll.specs.Weighing.{large, power-of, total-of, proposer}
+use Rattle.rules.specs.declared.Votes.the-variants.{Prevotes}
 use Rattle.rules.specs.declared.Input.{Input}
 use Rattle.rules.specs.declared.Phase.{Phase}
 use Rattle.rules.specs.declared.Phase.the-variants.{Running, Settled}
 use Rattle.rules.specs.declared.Step.the-variants.{Propose, Prevote}
-use Rattle.rules.specs.Log.{Desk, desk, proposed, prevote-power-for}
+use Rattle.rules.specs.Log.{Desk, desk, proposed, power-for}
 use Rattle.rules.specs.Doing.{current, step}
 use Rattle.rules.specs.Rules.{is-large}
 use Rattle.refusals.specs.Refusals.{is-proposal, is-timer}
@@ -52,7 +53,7 @@ pub record Good-round (Stands : Phase → Type 0) (powers : List ℕ) (height : 
   pub past : ℕ → Past
   pub recalls : (i : ℕ) → Keeps powers keeps i → Recalls powers height keeps w i (past i)
   -- "all stand in one round under the same journal rules with nobody settled"; there is one set of rules
-  pub stands : (i : ℕ) → Keeps powers keeps i → Stands (past i .kiosk .state .phase)
+  pub stands : (i : ℕ) → Keeps powers keeps i → Stands (past i .kiosk .state .progress .phase)
   pub one-round : (i : ℕ) → Keeps powers keeps i → current (desk-of (past i)) ≡ g .round
   -- "its proposer keeps the rules, has proposed and prevoted its proposal and is at the prevote step"
   pub turn : Keeps powers keeps (turn-of powers height g)
@@ -62,10 +63,10 @@ pub record Good-round (Stands : Phase → Type 0) (powers : List ℕ) (height : 
   -- "the others are at the propose step"
   pub at-propose : (i : ℕ) → Keeps powers keeps i → i ≢ turn-of powers height g → step (desk-of (past i)) ≡ Propose
   -- "no kiosk is locked on another sheet after the proposal's valid round (on none other if that is -1)": both rounds plus one
-  pub unlocked : (i : ℕ) → Keeps powers keeps i → (past i .kiosk .state .locked .next ≤ g .valid) ⊎ (past i .kiosk .state .locked .name ≡ g .name)
+  pub unlocked : (i : ℕ) → Keeps powers keeps i → (past i .kiosk .state .progress .locked .next .0 ≤ g .valid) ⊎ (past i .kiosk .state .progress .locked .name ≡ g .name)
   -- "each holds large prevotes of that valid round, if any, for it"
   pub backed : (i : ℕ) → Keeps powers keeps i → 1 ≤ g .valid →
-      is-large (desk-of (past i)) (prevote-power-for (desk-of (past i)) (pred (g .valid)) (g .name)) ≡ true
+      is-large (desk-of (past i)) (power-for Prevotes (desk-of (past i)) (pred (g .valid)) (g .name)) ≡ true
 
 -- "rule-keeping kiosks are large together": no premise, as 3B < T says it
 abbrev pub Large-together : Type 0
@@ -121,7 +122,7 @@ module _ (powers : List ℕ) (height : ℕ) (keeps : Seats) (g : Proposal) where
     pub put-out : (i : ℕ) → Keeps powers keeps i → Put-out powers height keeps w i (settled (g .round) (g .name))
     -- and that is the state that it has, or that opening gives
     pub holds : (i : ℕ) → Keeps powers keeps i → (p : Past) → Recalls powers height keeps w i p →
-        (p .kiosk .state .phase ≡ Settled (record { 0 = g .round })) × (proposed (desk-of p) (g .round) ≡ g .name)
+        (p .kiosk .state .progress .phase ≡ Settled (record { 0 = g .round })) × (proposed (desk-of p) (g .round) ≡ g .name)
     -- and nobody ever settles another
     pub no-other : (w′ : World powers height keeps) → Leads powers height keeps w w′ → (j s u : ℕ) → Keeps powers keeps j →
         Put-out powers height keeps w′ j (settled s u) → u ≡ g .name

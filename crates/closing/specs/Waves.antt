@@ -10,7 +10,7 @@ use Rattle.words.specs.Members.{In}
 use Rattle.rules.specs.declared.Input.{Input}
 use Rattle.rules.specs.State.{most-rounds}
 use Rattle.journal.specs.Layout.{roomy}
-use Rattle.answers.specs.Answers.{is-accepted}
+use Rattle.refusals.specs.Answers.{is-accepted}
 use Rattle.refusals.specs.Refusals.{fields-fit}
 use Rattle.kiosk.specs.declared.Reply.{Reply}
 use Rattle.kiosk.specs.Calls.{put}

@@ -2,10 +2,10 @@
 use Prim.Native.Nat.{ℕ}
 use mathlib.Core.Path.{_≡_, ap, sym}
 use mathlib.Core.List.{List, map}
-use Rattle.flat.specs.declared.FlatKiosk.{FlatKiosk}
-use Rattle.flat.specs.declared.FlatInput.{FlatInput}
-use Rattle.flat.specs.declared.FlatReply.{FlatReply}
-use Rattle.flat.specs.Flat.{holds}
+use Rattle.board.specs.declared.FlatKiosk.{FlatKiosk}
+use Rattle.board.specs.declared.FlatInput.{FlatInput}
+use Rattle.board.specs.declared.FlatReply.{FlatReply}
+use Rattle.board.specs.Flat.{holds}
 use Rattle.board.specs.declared.FlatMade.{FlatMade}
 use Rattle.board.specs.declared.FlatPart.{FlatPart}
 use Rattle.board.specs.Board.{board-create, board-open, board-put, last-part}

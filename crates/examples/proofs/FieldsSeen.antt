@@ -6,7 +6,7 @@ use Rattle.listing.specs.Text.{the-text}
 use Rattle.listing.specs.Listing.{the-listing}
 use Rattle.board.specs.declared.FlatPage.{FlatPage}
 use Rattle.board.specs.Board.{Lists, board-list}
-use Rattle.board.specs.Fields.{plain-number, log-number, kiosk-number, input-number, layout}
+use Rattle.board.specs.Fields.{plain-number, kiosk-number, input-number, layout}
 use Rattle.examples.specs.Fields.{numbered, numbered-input, Number, numbers, input-numbers, Laid, layouts, Paged, pages, Seen}
 use Rattle.examples.proofs.Each.{all-so}
 use Rattle.examples.proofs.Kiosk.{the-kiosk}
@@ -23,7 +23,7 @@ page-so : (c : Paged) → page-given c ≡ page-computed c → Lists (board-list
 page-so c e = record { page = ap (λ w. w .0) e; text-is = ap (λ w. w .1) e }
 
 pub fields-seen : Seen
-unfolding the-kiosk the-text the-listing board-list plain-number log-number kiosk-number input-number layout numbers input-numbers layouts pages
+unfolding the-kiosk the-text the-listing board-list plain-number kiosk-number input-number layout numbers input-numbers layouts pages
 fields-seen = record {
   numbers-so = all-so (λ (c : Number). c .number) (λ (c : Number). kiosk-number numbered (c .field) (c .index)) (λ c e. sym e) numbers refl;
   input-numbers-so = all-so (λ (c : Number). c .number) (λ (c : Number). input-number numbered-input (c .field)) (λ c e. sym e) input-numbers refl;

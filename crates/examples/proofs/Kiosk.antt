@@ -11,11 +11,11 @@ use Rattle.rules.specs.Log.{the-log}
 use Rattle.rules.specs.Doing.{the-doing}
 use Rattle.rules.specs.Rules.{the-rules}
 use Rattle.rules.specs.Work.{the-work}
-use Rattle.rules.specs.Ready.{packed}
-use Rattle.rules.proofs.Whole.{spread}
+use Rattle.rules.specs.Sent.{packed}
+use Rattle.rules.proofs.Whole.{spread, woven}
 use Rattle.journal.specs.Layout.{the-layout}
 use Rattle.journal.specs.Readback.{the-readback}
-use Rattle.answers.specs.declared.Answer.{Answer}
+use Rattle.refusals.specs.declared.Answer.{Answer}
 use Rattle.refusals.specs.Possible.{the-possible}
 use Rattle.refusals.specs.Refusals.{the-refusals}
 use Rattle.kiosk.specs.declared.Kiosk.{Kiosk}
@@ -31,7 +31,7 @@ use Rattle.examples.proofs.Each.{all-so, call-given, opening-given, cre
 
 -- everything that a kiosk's calls compute by
 unfoldable pub the-kiosk : Unit {0}
-unfolding the-choices compared the-weighing the-log the-doing the-rules the-work the-layout the-readback the-possible the-refusals the-judged the-calls the-opening spread
+unfolding the-choices compared the-weighing the-log the-doing the-rules the-work the-layout the-readback the-possible the-refusals the-judged the-calls the-opening spread woven
 the-kiosk = tt
 
 -- the reply that an answer, outputs and a state are

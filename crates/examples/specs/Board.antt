@@ -1,9 +1,9 @@
 -- What a list of calls of the board's library claims: each reply meets its promise. Assumes nothing.
 use Prim.Native.Nat.{ℕ}
 use mathlib.Core.Path.{_≡_}
-use Rattle.flat.specs.declared.FlatKiosk.{FlatKiosk}
-use Rattle.flat.specs.declared.FlatInput.{FlatInput}
-use Rattle.flat.specs.declared.FlatReply.{FlatReply}
+use Rattle.board.specs.declared.FlatKiosk.{FlatKiosk}
+use Rattle.board.specs.declared.FlatInput.{FlatInput}
+use Rattle.board.specs.declared.FlatReply.{FlatReply}
 use Rattle.board.specs.declared.FlatMade.{FlatMade}
 use Rattle.board.specs.declared.FlatPart.{FlatPart}
 use Rattle.board.specs.Board.{Creates, Opens, Says, board-create, board-open, board-put, last-part}

@@ -11,7 +11,7 @@ use Rattle.rules.proofs.Whole.{at, table, held, log, stand, state, out}
 use Rattle.rules.proofs.Stories.{four, none, locks, skips}
 use Rattle.journal.specs.Layout.{roomy}
 use Rattle.journal.proofs.Journals.{journal-107}
-use Rattle.answers.specs.declared.Answer.the-variants.{Accepted, HeaderShort, Damaged}
+use Rattle.refusals.specs.declared.Answer.the-variants.{Accepted, HeaderShort, Damaged}
 use Rattle.kiosk.specs.declared.Reply.{Reply}
 use Rattle.examples.specs.Cases.{All, Opening, opens}
 use Rattle.examples.specs.Whole.{kiosk, reply, unopened, Telling, tells, filled}

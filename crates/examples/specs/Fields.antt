@@ -4,9 +4,9 @@ use Prim.Native.Nat.{ℕ}
 use mathlib.Core.Path.{_≡_}
 use mathlib.Core.List.{List, [], _∷_, _++_}
 use lib.ListN.{replicate}
-use Rattle.flat.specs.declared.FlatKiosk.{FlatKiosk}
-use Rattle.flat.specs.declared.FlatInput.{FlatInput}
-use Rattle.flat.specs.declared.FlatReply.{FlatReply}
+use Rattle.board.specs.declared.FlatKiosk.{FlatKiosk}
+use Rattle.board.specs.declared.FlatInput.{FlatInput}
+use Rattle.board.specs.declared.FlatReply.{FlatReply}
 use Rattle.listing.proofs.Texts.{refused-13}
 use Rattle.board.specs.declared.FlatPage.{FlatPage}
 use Rattle.board.specs.Board.{Lists, board-list}
@@ -34,10 +34,7 @@ numbered = record {
   backed = 116;
   «locked_next» = 117;
   «valid_next» = 118;
-  prevotes = 301 ∷ 302 ∷ 303 ∷ 304 ∷ 305 ∷ 306 ∷ 307 ∷ 308 ∷ 309 ∷ 310 ∷ 311 ∷ 312 ∷ 313 ∷ 314 ∷ 315 ∷ 316 ∷ [];
-  precommits = 321 ∷ 322 ∷ 323 ∷ 324 ∷ 325 ∷ 326 ∷ 327 ∷ 328 ∷ 329 ∷ 330 ∷ 331 ∷ 332 ∷ 333 ∷ 334 ∷ 335 ∷ 336 ∷ [];
-  proposals = 341 ∷ 342 ∷ 343 ∷ 344 ∷ 345 ∷ 346 ∷ 347 ∷ 348 ∷ 349 ∷ 350 ∷ 351 ∷ 352 ∷ 353 ∷ 354 ∷ 355 ∷ 356 ∷ [];
-  valids = 361 ∷ 362 ∷ 363 ∷ 364 ∷ 365 ∷ 366 ∷ 367 ∷ 368 ∷ 369 ∷ 370 ∷ 371 ∷ 372 ∷ 373 ∷ 374 ∷ 375 ∷ 376 ∷ [];
+  log = 301 ∷ 302 ∷ 303 ∷ 304 ∷ 305 ∷ 306 ∷ 307 ∷ 308 ∷ 309 ∷ 310 ∷ 311 ∷ 312 ∷ 313 ∷ 314 ∷ 315 ∷ 316 ∷ 317 ∷ 318 ∷ 319 ∷ 320 ∷ 321 ∷ 322 ∷ 323 ∷ 324 ∷ 325 ∷ 326 ∷ 327 ∷ 328 ∷ 329 ∷ 330 ∷ 331 ∷ 332 ∷ 333 ∷ 334 ∷ 335 ∷ 336 ∷ 337 ∷ 338 ∷ 339 ∷ 340 ∷ 341 ∷ 342 ∷ 343 ∷ 344 ∷ 345 ∷ 346 ∷ 347 ∷ 348 ∷ 349 ∷ 350 ∷ 351 ∷ 352 ∷ 353 ∷ 354 ∷ 355 ∷ 356 ∷ 357 ∷ 358 ∷ 359 ∷ 360 ∷ 361 ∷ 362 ∷ 363 ∷ 364 ∷ [];
 }
 
 abbrev pub numbered-input : FlatInput
@@ -105,30 +102,12 @@ numbers =
     at-field 17 40 118 ∷
     at-field 18 0 301 ∷
     at-field 18 1 302 ∷
-    at-field 18 14 315 ∷
-    at-field 18 15 316 ∷
-    at-field 18 16 0 ∷
-    at-field 18 25 0 ∷
-    at-field 19 0 321 ∷
-    at-field 19 1 322 ∷
-    at-field 19 14 335 ∷
-    at-field 19 15 336 ∷
-    at-field 19 16 0 ∷
-    at-field 19 25 0 ∷
-    at-field 20 0 341 ∷
-    at-field 20 1 342 ∷
-    at-field 20 14 355 ∷
-    at-field 20 15 356 ∷
-    at-field 20 16 0 ∷
-    at-field 20 25 0 ∷
-    at-field 21 0 361 ∷
-    at-field 21 1 362 ∷
-    at-field 21 14 375 ∷
-    at-field 21 15 376 ∷
-    at-field 21 16 0 ∷
-    at-field 21 25 0 ∷
-    at-field 22 0 0 ∷
-    at-field 22 15 0 ∷
+    at-field 18 62 363 ∷
+    at-field 18 63 364 ∷
+    at-field 18 64 0 ∷
+    at-field 18 73 0 ∷
+    at-field 19 0 0 ∷
+    at-field 19 15 0 ∷
     at-field 40 3 0 ∷
     []
 

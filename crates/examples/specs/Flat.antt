@@ -4,11 +4,10 @@ use mathlib.Core.List.{List, [], _++_}
 use lib.ListN.{length, replicate}
 use Rattle.roll.specs.declared.Roll.{Roll}
 use Rattle.rules.specs.declared.Held.{Held}
-use Rattle.rules.specs.declared.Log.{Log}
-use Rattle.flat.specs.declared.FlatKiosk.{FlatKiosk}
-use Rattle.flat.specs.declared.FlatInput.{FlatInput}
-use Rattle.flat.specs.declared.FlatOutput.{FlatOutput}
-use Rattle.flat.specs.declared.FlatReply.{FlatReply}
+use Rattle.board.specs.declared.FlatKiosk.{FlatKiosk}
+use Rattle.board.specs.declared.FlatInput.{FlatInput}
+use Rattle.board.specs.declared.FlatOutput.{FlatOutput}
+use Rattle.board.specs.declared.FlatReply.{FlatReply}
 use Rattle.board.specs.declared.FlatMade.{FlatMade}
 use Rattle.board.specs.declared.FlatPart.{FlatPart}
 use Rattle.examples.specs.Cases.{Call, puts, Opening, Creating, Showing, Cases}
@@ -32,7 +31,7 @@ out kind round valid name = record { name = name; kind = kind; round = round; va
 
 -- the roll; phase, settled round; round, step; whether the timers of propose, prevote and precommit are asked for, whether rule 36 has
 -- fired; the locked and the valid sheet; the log; the used length, and where the last group starts
-abbrev pub kiosk : Roll → ℕ → ℕ → ℕ → ℕ → ℕ → ℕ → ℕ → ℕ → Held → Held → Log → ℕ → ℕ → FlatKiosk
+abbrev pub kiosk : Roll → ℕ → ℕ → ℕ → ℕ → ℕ → ℕ → ℕ → ℕ → Held → Held → List ℕ → ℕ → ℕ → FlatKiosk
 kiosk roll phase settled round step propose prevote precommit backed locked valid log used last = record {
   kiosks = roll .kiosks;
   own = roll .own;
@@ -50,12 +49,9 @@ kiosk roll phase settled round step propose prevote precommit backed locked vali
   «asked_prevote» = prevote;
   «asked_precommit» = precommit;
   backed = backed;
-  «locked_next» = locked .next;
-  «valid_next» = valid .next;
-  prevotes = log .prevotes;
-  precommits = log .precommits;
-  proposals = log .proposals;
-  valids = log .valids;
+  «locked_next» = locked .next .0;
+  «valid_next» = valid .next .0;
+  log = log;
 }
 
 -- number, place, outputs, state: six places for outputs, zeros in those that none has come to

@@ -16,8 +16,8 @@ use Rattle.rules.specs.declared.Input.{Input}
 use Rattle.rules.proofs.Whole.{at, spread, table, roll, held, log, stand, state, input, out}
 use Rattle.rules.proofs.Stories.{four, none, fresh, starts, proposes, prevotes, precommits, timer}
 use Rattle.journal.proofs.Journals.{journal-107}
-use Rattle.answers.specs.declared.Answer.{Answer}
-use Rattle.answers.specs.declared.Answer.the-variants.{Accepted, Impossible, AlreadySettled, OutOfOrder, OtherHeight, BadField, OwnNumber, NotProposer, HeardSame, HeardOther, TimerNotDue, LastRound, NoRoom, HeaderShort, Damaged, BadRoll}
+use Rattle.refusals.specs.declared.Answer.{Answer}
+use Rattle.refusals.specs.declared.Answer.the-variants.{Accepted, Impossible, AlreadySettled, OutOfOrder, OtherHeight, BadField, OwnNumber, NotProposer, HeardSame, HeardOther, TimerNotDue, LastRound, NoRoom, HeaderShort, Damaged, BadRoll}
 use Rattle.kiosk.specs.declared.Kiosk.{Kiosk}
 use Rattle.kiosk.specs.declared.Reply.{Reply}
 use Rattle.kiosk.specs.declared.Made.{Made}
@@ -166,10 +166,17 @@ calls =
     denies Impossible (stands four Running voting none (held 2 50)) ∷
     denies Impossible (stands four Running voting none (held 1 0)) ∷
     denies Impossible (stands four Running voting none (held 0 50)) ∷
-    -- 1: a number that says nothing of a proposal, and the two that say its verdict
+    -- not 1, whatever number says that a proposal is heard: 1 is a bad one, and every other a good one, which prevotes can lock
     takes-5 0 0 1 0 7 ∷
     takes-5 0 0 2 0 7 ∷
-    denies-5 0 0 3 0 7 ∷
+    takes-5 0 0 3 0 7 ∷
+    puts (prevotes 2 0 50) (kiosk (state four Running voting none none (log (at 0 3 ∷ []) [] (at 0 3 ∷ []) [])) 15 15)
+    (table (at 0 50 ∷ at 1 50 ∷ at 2 50 ∷ []))
+    (sevens 65)
+    (reply Accepted (out 5 0 0 0 ∷ out 3 0 0 50 ∷ [])
+    (kiosk (state four Running (stand 0 Precommit true true false true) (held 1 50) (held 1 50) (log (at 0 7 ∷ []) (at 0 1 ∷ []) (at 0 3 ∷ []) [])) 65 15))
+    (table (at 0 50 ∷ at 1 50 ∷ at 2 50 ∷ at 3 50 ∷ at 33 50 ∷ []))
+    (sevens 15 ++ bytes.prevoted-by-2) ∷
     -- 1: "a heard proposal with name 0 or a valid round below -1 or not below its own"
     takes-5 0 0 2 5 7 ∷
     denies-5 0 0 2 6 7 ∷

@@ -6,35 +6,37 @@ use mathlib.Core.List.{List, []}
 use mathlib.Core.Bool.{Bool, true, false, _&&_}
 use native.Mathlib.Omega.{arith}
 use lib.Dec.{eqb, leb}
-use lib.ListN.{length, replicate}
+use lib.ListN.{length, getD}
 use Rattle.words.specs.Choice.{if_then_else_}
 use Rattle.roll.specs.declared.Roll.{Roll}
 use Rattle.rules.specs.declared.State.{State}
-use Rattle.rules.specs.declared.Votes.{Votes}
-use Rattle.rules.specs.declared.Log.{Log}
+use Rattle.rules.specs.declared.Progress.{Progress}
 use Rattle.rules.specs.declared.Input.{Input}
 use Rattle.rules.specs.declared.Output.{Output}
 use Rattle.rules.specs.declared.Sent.{Sent}
 use Rattle.rules.specs.State.{most-rounds, state-of}
-use Rattle.rules.specs.Log.{Desk, desk}
+use Rattle.rules.specs.Log.{Desk, desk, table-length, message}
 use Rattle.rules.specs.Doing.{current}
 use Rattle.rules.specs.Work.{take-in, fire-all, most-firings, worked, work}
-use Rattle.rules.specs.Ready.{Ready, Readable, midway, packed, so-far, no-output}
+use Rattle.rules.specs.Sent.{packed, no-output}
+use Rattle.rules.specs.contracts.Ready.{Ready, Readable, midway, so-far}
 use Rattle.rules.proofs.Sends.{sent-grows}
-use Rattle.acts.specs.declared.Act.{Act}
-use Rattle.acts.specs.Acts.{done}
-use Rattle.firing.specs.declared.Trail.{Trail}
-use Rattle.firing.specs.declared.Worked.{Worked}
-use Rattle.firing.specs.Trails.{trail-of, undone, undone-to, message, own-message, Puts, Firing, Leaves}
+use Rattle.firing.specs.declared.Act.{Act}
+use Rattle.firing.specs.contracts.Acts.{done}
+use Rattle.firing.specs.contracts.Trails.{trail-length, no-trail, written, undone, undone-to, own-message, message-of, lent, Writable, Puts, Firing, Leaves}
 use Rattle.firing.proofs.Keeping.{take-in-keeps}
 use Rattle.firing.proofs.Turns.{also, sent-after, Handed, handed, moved, message-is}
 
--- as a call begins nothing is written, and there is room for outputs
-abbrev no-trail : Trail
-no-trail = trail-of 0 (replicate 7 0) (replicate 7 0)
-
+-- as a call begins there is room for outputs
 pub no-outputs : {s : Sent} → s ≡ packed [] → s .count < 6
 no-outputs e = rw e (omega arith)
+
+-- and for a write
+pub none-long : {trail : List ℕ} → trail ≡ no-trail → length trail ≡ trail-length
+none-long e = ap length e
+
+pub none-written : {trail t : List ℕ} → trail ≡ no-trail → length t ≡ table-length → Writable trail t
+none-written e p = record { room = rw e (omega arith); long = none-long e; places = p }
 
 -- where one write at most was put
 at-most-one : (b : Bool) → (if b then 1 else 0) ≤ 1
@@ -46,10 +48,8 @@ at-most-one false = omega arith
 module _
     (i : Input)
     (roll : Roll)
-    (votes votes′ : Votes)
-    {l l′ : Log}
-    {t t′ : List ℕ}
-    {trail : Trail}
+    (votes votes′ : Progress)
+    {l l′ t t′ trail₀ trail : List ℕ}
     {sent₀ sent : Sent}
     (sends : Bool)
     (o : Output)
@@ -59,7 +59,8 @@ module _
     (readable : Readable i)
     (few : length (work i (state-of roll votes l) t .sent) ≤ 6)
     (empty : sent₀ ≡ packed [])
-    (p : Puts f most l t no-trail l′ t′ trail)
+    (nowhere : trail₀ ≡ no-trail)
+    (p : Puts f most (lent l t trail₀) (lent l′ t′ trail))
     (one : most ≤ 1)
     (taken : midway (state-of roll votes′ l′) t′ (also sends o []) ≡ take-in i (desk (state-of roll votes l) t))
     (next : sent ≡ sent-after sends o sent₀) where
@@ -99,21 +100,21 @@ module _
     };
     packs = hands .packs;
     few = subst (λ (x : Desk). length (fire-all (most-firings most-rounds) (i .offer) x .sent) ≤ 6) (sym (hands .desk-is)) few-after;
-    short = omega (arith, p .count, one);
+    short = omega (arith, p .count, one, ap (λ (z : List ℕ). getD z 0 0) nowhere);
     long = p .long;
   }
 
-  pub leaves-all : {w : Worked} {s : State} {table : List ℕ} →
-      Leaves (fire-all (most-firings most-rounds) (i .offer) (midway (state-of roll votes′ l′) t′ (so-far sent))) (undone trail t′) s w table →
-      Leaves (work i (state-of roll votes l) t) t s w table
+  pub leaves-all : {s : State} {out : Sent} {way table : List ℕ} →
+      Leaves (fire-all (most-firings most-rounds) (i .offer) (midway (state-of roll votes′ l′) t′ (so-far sent))) (undone trail t′) s out way table →
+      Leaves (work i (state-of roll votes l) t) t s out way table
   unfolding undone-to
   leaves-all r =
       let same = ap (fire-all (most-firings most-rounds) (i .offer)) (hands .desk-is) ∙ sym worked-is in
       record {
         state = r .state ∙ ap (λ (x : Desk). x .state) same;
-        sent = r .sent ∙ ap (λ (x : Desk). packed (x .sent)) same;
+        outputs = r .outputs ∙ ap (λ (x : Desk). packed (x .sent)) same;
         names = r .names ∙ ap (λ (x : Desk). x .table) same;
-        back = r .back ∙ p .back;
+        back = r .back ∙ p .back ∙ ap (λ (z : List ℕ). undone z t) nowhere;
         short = r .short;
       }
 
@@ -122,47 +123,46 @@ module _
 module _
     (i : Input)
     (roll : Roll)
-    (votes : Votes)
-    {l l′ : Log}
-    {t t′ : List ℕ}
-    {trail : Trail}
+    (votes : Progress)
+    {l l′ t t′ trail₀ trail : List ℕ}
     {sent₀ : Sent}
     (ready : Ready (state-of roll votes l) t)
     (readable : Readable i)
     (few : length (work i (state-of roll votes l) t .sent) ≤ 6)
-    (empty : sent₀ ≡ packed []) where
+    (empty : sent₀ ≡ packed [])
+    (nowhere : trail₀ ≡ no-trail) where
   -- a message
   module _
       (mid : (leb 2 (i .kind) && leb (i .kind) 4) ≡ true)
-      (p : Puts (message (i .kind - 1) (i .round .0) (i .sender) (eqb (i .verdict) 1) (i .valid) (i .name)) 1 l t no-trail l′ t′ trail) where
+      (p : Puts (message (message-of i) (i .sender) (eqb (i .verdict) 1)) 1 (lent l t trail₀) (lent l′ t′ trail)) where
     heard : midway (state-of roll votes l′) t′ [] ≡ take-in i (desk (state-of roll votes l) t)
     heard = p .desk roll votes [] ∙ message-is i (desk (state-of roll votes l) t) mid
 
     pub message-fires : Firing (most-firings most-rounds) (i .offer) (state-of roll votes l′) sent₀ trail t′
-    message-fires = fires i roll votes votes false no-output _ 1 ready readable few empty p (omega arith) heard refl
+    message-fires = fires i roll votes votes false no-output _ 1 ready readable few empty nowhere p (omega arith) heard refl
 
-    pub message-leaves : {w : Worked} {s : State} {table : List ℕ} →
-        Leaves (fire-all (most-firings most-rounds) (i .offer) (midway (state-of roll votes l′) t′ (so-far sent₀))) (undone trail t′) s w table →
-        Leaves (work i (state-of roll votes l) t) t s w table
-    message-leaves r = leaves-all i roll votes votes false no-output _ 1 ready readable few empty p (omega arith) heard refl r
+    pub message-leaves : {s : State} {out : Sent} {way table : List ℕ} →
+        Leaves (fire-all (most-firings most-rounds) (i .offer) (midway (state-of roll votes l′) t′ (so-far sent₀))) (undone trail t′) s out way table →
+        Leaves (work i (state-of roll votes l) t) t s out way table
+    message-leaves r = leaves-all i roll votes votes false no-output _ 1 ready readable few empty nowhere p (omega arith) heard refl r
 
   -- start, or a timer
   module _
       (a : Act)
       {sent : Sent}
-      (act : (l : Log) (t : List ℕ) (os : List Output) → done a (midway (state-of roll votes l) t os) ≡ take-in i (midway (state-of roll votes l) t os))
-      (p : Puts (own-message (a .sends && leb (a .output .kind) 3) (roll .own) (a .output)) (if a .sends && leb (a .output .kind) 3 then 1 else 0) l t no-trail l′ t′ trail)
+      (act : (l t : List ℕ) (os : List Output) → done a (midway (state-of roll votes l) t os) ≡ take-in i (midway (state-of roll votes l) t os))
+      (p : Puts (own-message (a .sends && leb (a .output .kind) 3) (roll .own) (a .output)) (if a .sends && leb (a .output .kind) 3 then 1 else 0) (lent l t trail₀) (lent l′ t′ trail))
       (next : sent ≡ sent-after (a .sends) (a .output) sent₀) where
-    begun : midway (state-of roll (a .votes) l′) t′ (also (a .sends) (a .output) []) ≡ take-in i (desk (state-of roll votes l) t)
-    begun = moved (a .sends) (a .output) roll (a .votes) [] p ∙ act l t []
+    begun : midway (state-of roll (a .progress) l′) t′ (also (a .sends) (a .output) []) ≡ take-in i (desk (state-of roll votes l) t)
+    begun = moved (a .sends) (a .output) roll (a .progress) [] p ∙ act l t []
 
     one : (if a .sends && leb (a .output .kind) 3 then 1 else 0) ≤ 1
     one = at-most-one (a .sends && leb (a .output .kind) 3)
 
-    pub begin-fires : Firing (most-firings most-rounds) (i .offer) (state-of roll (a .votes) l′) sent trail t′
-    begin-fires = fires i roll votes (a .votes) (a .sends) (a .output) _ _ ready readable few empty p one begun next
+    pub begin-fires : Firing (most-firings most-rounds) (i .offer) (state-of roll (a .progress) l′) sent trail t′
+    begin-fires = fires i roll votes (a .progress) (a .sends) (a .output) _ _ ready readable few empty nowhere p one begun next
 
-    pub begin-leaves : {w : Worked} {s : State} {table : List ℕ} →
-        Leaves (fire-all (most-firings most-rounds) (i .offer) (midway (state-of roll (a .votes) l′) t′ (so-far sent))) (undone trail t′) s w table →
-        Leaves (work i (state-of roll votes l) t) t s w table
-    begin-leaves r = leaves-all i roll votes (a .votes) (a .sends) (a .output) _ _ ready readable few empty p one begun next r
+    pub begin-leaves : {s : State} {out : Sent} {way table : List ℕ} →
+        Leaves (fire-all (most-firings most-rounds) (i .offer) (midway (state-of roll (a .progress) l′) t′ (so-far sent))) (undone trail t′) s out way table →
+        Leaves (work i (state-of roll votes l) t) t s out way table
+    begin-leaves r = leaves-all i roll votes (a .progress) (a .sends) (a .output) _ _ ready readable few empty nowhere p one begun next r

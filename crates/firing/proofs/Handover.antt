@@ -4,48 +4,72 @@ use mathlib.Core.Path.{_≡_, refl, ap, ap₂, sym, _∙_}
 use mathlib.Core.List.{List, [], _∷_, _++_}
 use native.Mathlib.Numerals.{add-one, sub-one}
 use native.Mathlib.Omega.{arith}
-use lib.ListN.{length, take, set, getD, replicate, length-append}
+use lib.ListN.{length, take, set, getD, replicate, length-append, length-set}
 use lib.Seq.{set-set, set-getD, getD-set-same, getD-set-other, take-take, take-append-seam}
 use Rattle.rules.specs.declared.Output.{Output}
 use Rattle.rules.specs.declared.Sent.{Sent}
-use Rattle.rules.specs.Ready.{no-output, six, packed, so-far}
-use Rattle.firing.specs.Trails.{undone-to}
+use Rattle.rules.specs.Sent.{no-output, six, packed}
+use Rattle.rules.specs.contracts.Ready.{so-far}
+use Rattle.firing.specs.contracts.Trails.{written, kept-at, longer, undone-to, undone}
 
 -- ## The trail
 
 -- one write less to take back
-pub undone-less : (left : ℕ) (places names table : List ℕ) → 0 < left →
-    undone-to left places names table ≡ undone-to (left - 1) places names (set table (getD places (left - 1) 0) (getD names (left - 1) 0))
+pub undone-less : (left : ℕ) (trail table : List ℕ) → 0 < left →
+    undone-to left trail table ≡ undone-to (left - 1) trail (set table (getD trail (kept-at (left - 1)) 0) (getD trail (kept-at (left - 1) + 1) 0))
 unfolding undone-to
-undone-less zero places names table h = absurd (omega arith)
-undone-less (suc left) places names table h = rw sub-one
+undone-less zero trail table h = absurd (omega arith)
+undone-less (suc left) trail table h = rw sub-one
 
-pub undone-none : (left : ℕ) (places names table : List ℕ) → left ≤ 0 → undone-to left places names table ≡ table
+pub undone-none : (left : ℕ) (trail table : List ℕ) → left ≤ 0 → undone-to left trail table ≡ table
 unfolding undone-to
-undone-none zero places names table h = refl
-undone-none (suc left) places names table h = absurd (omega arith)
+undone-none zero trail table h = refl
+undone-none (suc left) trail table h = absurd (omega arith)
 
--- writes past the first `count` are not looked at
-undone-same : (count at : ℕ) (places names table : List ℕ) (p n : ℕ) → count ≤ at →
-    undone-to count (set places at p) (set names at n) table ≡ undone-to count places names table
+-- only the first n writes are looked at
+undone-same : (n : ℕ) (a b table : List ℕ) → ((k : ℕ) → 0 < k → k < kept-at n → getD a k 0 ≡ getD b k 0) → undone-to n a table ≡ undone-to n b table
 unfolding undone-to
-undone-same zero at places names table p n h = refl
-undone-same (suc count) at places names table p n h =
-    rw (getD-set-other places at count p 0 (λ e. omega arith), getD-set-other names at count n 0 (λ e. omega arith))
-    (undone-same count at places names _ p n (omega arith))
+undone-same zero a b table same = refl
+undone-same (suc n) a b table same =
+    rw (same (kept-at n) (omega arith) (omega arith), same (kept-at n + 1) (omega arith) (omega arith))
+    (undone-same n a b _ (λ k some low. same k some (omega arith)))
+
+module _ (trail : List ℕ) (place name : ℕ) (long : length trail ≡ 15) (room : written trail < 7) where
+  abbrev at : ℕ
+  at = kept-at (written trail)
+
+  pub longer-written : written (longer trail place name) ≡ written trail + 1
+  longer-written = getD-set-same (set (set trail at place) (at + 1) name) 0 _ 0 (simp length-set (omega arith))
+
+  longer-other : (k : ℕ) → 0 < k → k < at → getD (longer trail place name) k 0 ≡ getD trail k 0
+  longer-other k some low =
+      getD-set-other (set (set trail at place) (at + 1) name) 0 k _ 0 (λ e. omega arith)
+      ∙ getD-set-other (set trail at place) (at + 1) k name 0 (λ e. omega arith)
+      ∙ getD-set-other trail at k place 0 (λ e. omega arith)
+
+  longer-place : getD (longer trail place name) at 0 ≡ place
+  longer-place =
+      getD-set-other (set (set trail at place) (at + 1) name) 0 at _ 0 (λ e. omega arith)
+      ∙ getD-set-other (set trail at place) (at + 1) at name 0 (λ e. omega arith)
+      ∙ getD-set-same trail at place 0 (omega arith)
+
+  longer-name : getD (longer trail place name) (at + 1) 0 ≡ name
+  longer-name =
+      getD-set-other (set (set trail at place) (at + 1) name) 0 (at + 1) _ 0 (λ e. omega arith)
+      ∙ getD-set-same (set trail at place) (at + 1) name 0 (simp length-set (omega arith))
 
 -- a write kept in the trail is taken back with it
-pub undone-write : (count : ℕ) (places names table : List ℕ) (place name : ℕ) → count < length places → count < length names →
-    undone-to (count + 1) (set places count place) (set names count (getD table place 0)) (set table place name) ≡ undone-to count places names table
+pub undone-write : (trail table : List ℕ) (place name : ℕ) → length trail ≡ 15 → written trail < 7 →
+    undone (longer trail place (getD table place 0)) (set table place name) ≡ undone trail table
 unfolding undone-to
-undone-write count places names table place name h l =
+undone-write trail table place name long room =
     let old = getD table place 0 in
-    let ps = set places count place in
-    let ns = set names count old in
-    ap (λ (n : ℕ). undone-to n ps ns (set table place name)) (add-one count)
-    ∙ ap₂ (λ (p n : ℕ). undone-to count ps ns (set (set table place name) p n)) (getD-set-same places count place 0 h) (getD-set-same names count old 0 l)
-    ∙ ap (λ (z : List ℕ). undone-to count ps ns z) (set-set table place name old ∙ set-getD table place 0)
-    ∙ undone-same count count places names table place old (omega arith)
+    let n = written trail in
+    let more = longer trail place old in
+    ap (λ (k : ℕ). undone-to k more (set table place name)) (longer-written trail place old long room ∙ add-one n)
+    ∙ ap₂ (λ (p q : ℕ). undone-to n more (set (set table place name) p q)) (longer-place trail place old long room) (longer-name trail place old long room)
+    ∙ ap (λ (z : List ℕ). undone-to n more z) (set-set table place name old ∙ set-getD table place 0)
+    ∙ undone-same n more trail table (longer-other trail place old long room)
 
 -- ## The outputs
 

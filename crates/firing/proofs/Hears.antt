@@ -1,80 +1,86 @@
 -- A message in the lent log and table is a message that the desk hears, and the trail leads back past it. Assumes nothing.
-use Prim.Native.Nat.{ℕ, _+_, _<_}
+use Prim.Native.Nat.{ℕ, _+_}
 use mathlib.Core.Path.{_≡_, refl, ap, _∙_}
 use mathlib.Core.List.{List}
 use mathlib.Core.Bool.{Bool, true, false}
 use native.Mathlib.Omega.{arith}
 use lib.ListN.{length, set, getD, length-set}
-use lib.Seq.{set-getD}
 use borrow.Author.Tests.{ne-eqb}
 use Rattle.words.specs.Choice.{if_then_else_}
 use Rattle.words.specs.Marks.{mark}
 use Rattle.roll.specs.declared.Roll.{Roll}
-use Rattle.rules.specs.declared.Log.{Log}
 use Rattle.rules.specs.declared.Votes.{Votes}
+use Rattle.rules.specs.declared.Votes.the-variants.{Prevotes, Precommits}
+use Rattle.rules.specs.declared.Progress.{Progress}
 use Rattle.rules.specs.declared.Output.{Output}
-use Rattle.rules.specs.State.{log-of, state-of}
-use Rattle.rules.specs.Log.{Desk, proposal-place, told, hear-proposal, hear-prevote, hear-precommit}
-use Rattle.rules.specs.Ready.{midway}
-use Rattle.firing.specs.declared.Trail.{Trail}
-use Rattle.firing.specs.Trails.{longer, seven, message, own-message, Puts}
-use Rattle.firing.proofs.Handover.{undone-write}
+use Rattle.rules.specs.State.{state-of, marks-at, proposal-at, valid-at}
+use Rattle.rules.specs.Log.{Desk, proposal-place, votes-place, message, hear-proposal, hear-vote}
+use Rattle.rules.specs.contracts.Ready.{midway}
+use Rattle.rules.proofs.Telling.{marks-is, tell-marks, tell-proposal}
+use Rattle.firing.specs.contracts.Trails.{written, longer, own-message, lent, Writable, Puts}
+use Rattle.firing.proofs.Handover.{longer-written, undone-write}
 
 -- one place written, with the name that it held kept
-noted : {f : Desk → Desk} {l l′ : Log} {t t′ : List ℕ} {trail trail′ : Trail} (place name : ℕ) → trail .count < 7 → seven trail →
+noted : {f : Desk → Desk} {l l′ t t′ trail trail′ : List ℕ} (place name : ℕ) → Writable trail t →
     t′ ≡ set t place name → trail′ ≡ longer trail place (getD t place 0) →
-    ((roll : Roll) (votes : Votes) (os : List Output) → midway (state-of roll votes l′) t′ os ≡ f (midway (state-of roll votes l) t os)) →
-    Puts f 1 l t trail l′ t′ trail′
-noted {t = t} {trail = trail} place name room long named kept desk = record {
+    ((roll : Roll) (p : Progress) (os : List Output) → midway (state-of roll p l′) t′ os ≡ f (midway (state-of roll p l) t os)) →
+    Puts f 1 (lent l t trail) (lent l′ t′ trail′)
+noted {t = t} {trail = trail} place name w named kept desk = record {
   desk = desk;
   places = ap length named ∙ simp length-set;
-  back = rw (named, kept) (undone-write (trail .count) (trail .places) (trail .names) t place name (omega arith) (omega arith));
-  count = rw kept (omega arith);
-  long = rw kept (simp length-set (long .0), simp length-set (long .1));
+  back = rw (named, kept) (undone-write trail t place name (w .long) (w .room));
+  count = rw kept (omega (arith, longer-written trail place (getD t place 0) (w .long) (w .room)));
+  long = rw kept (simp length-set (w .long));
 }
 
-module _ (kind r seat : ℕ) (good : Bool) (valid name : ℕ) {a b c d t : List ℕ} {trail : Trail} where
-  pub hears-proposal : {c′ d′ t′ : List ℕ} {trail′ : Trail} {place : ℕ} → trail .count < 7 → seven trail → kind ≡ 1 → place ≡ proposal-place r →
-      c′ ≡ set c r (if good then 2 else 1) → d′ ≡ set d r valid → t′ ≡ set t place name → trail′ ≡ longer trail place (getD t place 0) →
-      Puts (message kind r seat good valid name) 1 (log-of a b c d) t trail (log-of a b c′ d′) t′ trail′
-  unfolding message hear-proposal told
-  hears-proposal room long one at spoken with-valid named kept =
-      noted _ _ room long named kept (λ roll votes os. rw (one, spoken, with-valid, named, at, set-getD a r 0, set-getD b r 0))
+-- a vote
+pub hears-vote : (v : Votes) (r seat name : ℕ) {l l′ t t′ trail trail′ : List ℕ} {to place : ℕ} → Writable trail t → to ≡ marks-at v r → place ≡ votes-place v r →
+    l′ ≡ set l to (mark (getD l to 0) seat) → t′ ≡ set t (place + seat) name →
+    trail′ ≡ longer trail (place + seat) (getD t (place + seat) 0) → Puts (λ d. hear-vote v d r seat name) 1 (lent l t trail) (lent l′ t′ trail′)
+unfolding hear-vote
+hears-vote v r seat name {l} w to at marks named kept =
+    noted _ _ w named kept
+    (λ roll p os. rw (marks, to, named, at, marks-is v l r, tell-marks l r (mark (getD l (marks-at v r) 0) seat) v))
 
-  pub hears-prevote : {a′ t′ : List ℕ} {trail′ : Trail} {place : ℕ} → trail .count < 7 → seven trail → kind ≡ 2 → place ≡ proposal-place r + 1 →
-      a′ ≡ set a r (mark (getD a r 0) seat) → t′ ≡ set t (place + seat) name → trail′ ≡ longer trail (place + seat) (getD t (place + seat) 0) →
-      Puts (message kind r seat good valid name) 1 (log-of a b c d) t trail (log-of a′ b c d) t′ trail′
-  unfolding message hear-prevote told
-  hears-prevote room long two at marks named kept =
-      noted _ _ room long named kept (λ roll votes os. rw (two, marks, named, at, set-getD b r 0, set-getD c r 0, set-getD d r 0))
+module _ (o : Output) (seat : ℕ) (good : Bool) {l t trail l′ t′ trail′ : List ℕ} where
+  -- a proposal
+  pub hears-proposal : {place : ℕ} → Writable trail t → o .kind ≡ 1 → place ≡ proposal-place (o .round .0) →
+      l′ ≡ set (set l (proposal-at (o .round .0)) (if good then 2 else 1)) (valid-at (o .round .0)) (o .valid .0) → t′ ≡ set t place (o .name) →
+      trail′ ≡ longer trail place (getD t place 0) → Puts (message o seat good) 1 (lent l t trail) (lent l′ t′ trail′)
+  unfolding message hear-proposal
+  hears-proposal w one at told-so named kept =
+      noted _ _ w named kept (λ roll p os. rw (one, told-so, named, at, tell-proposal l (o .round .0) (if good then 2 else 1) (o .valid .0)))
 
-  pub hears-precommit : {b′ t′ : List ℕ} {trail′ : Trail} {place : ℕ} → trail .count < 7 → seven trail → kind ≡ 3 → place ≡ proposal-place r + 33 →
-      b′ ≡ set b r (mark (getD b r 0) seat) → t′ ≡ set t (place + seat) name → trail′ ≡ longer trail (place + seat) (getD t (place + seat) 0) →
-      Puts (message kind r seat good valid name) 1 (log-of a b c d) t trail (log-of a b′ c d) t′ trail′
-  unfolding message hear-precommit told
-  hears-precommit room long three at marks named kept =
-      noted _ _ room long named kept (λ roll votes os. rw (three, marks, named, at, set-getD a r 0, set-getD c r 0, set-getD d r 0))
-
-  -- nothing else is a message
-  pub hears-nothing : seven trail → (kind ≡ 1 → ⊥) → (kind ≡ 2 → ⊥) → (kind ≡ 3 → ⊥) →
-      Puts (message kind r seat good valid name) 1 (log-of a b c d) t trail (log-of a b c d) t trail
+  -- a message is one of its kind
+  pub hears-prevote : o .kind ≡ 2 → Puts (λ d. hear-vote Prevotes d (o .round .0) seat (o .name)) 1 (lent l t trail) (lent l′ t′ trail′) →
+      Puts (message o seat good) 1 (lent l t trail) (lent l′ t′ trail′)
   unfolding message
-  hears-nothing long one two three = record {
-    desk = λ roll votes os. rw (ne-eqb kind 1 one, ne-eqb kind 2 two, ne-eqb kind 3 three);
-    places = refl;
-    back = refl;
-    count = omega arith;
-    long = long;
-  }
+  hears-prevote two p = record { desk = λ roll q os. rw two (p .desk roll q os); places = p .places; back = p .back; count = p .count; long = p .long }
+
+  pub hears-precommit : o .kind ≡ 3 → Puts (λ d. hear-vote Precommits d (o .round .0) seat (o .name)) 1 (lent l t trail) (lent l′ t′ trail′) →
+      Puts (message o seat good) 1 (lent l t trail) (lent l′ t′ trail′)
+  unfolding message
+  hears-precommit three p = record { desk = λ roll q os. rw three (p .desk roll q os); places = p .places; back = p .back; count = p .count; long = p .long }
+
+-- nothing else is a message
+pub hears-nothing : (o : Output) (seat : ℕ) (good : Bool) {l t trail : List ℕ} → length trail ≡ 15 → (o .kind ≡ 1 → ⊥) → (o .kind ≡ 2 → ⊥) → (o .kind ≡ 3 → ⊥) →
+    Puts (message o seat good) 1 (lent l t trail) (lent l t trail)
+unfolding message
+hears-nothing o seat good long one two three = record {
+  desk = λ roll p os. rw (ne-eqb (o .kind) 1 one, ne-eqb (o .kind) 2 two, ne-eqb (o .kind) 3 three);
+  places = refl;
+  back = refl;
+  count = omega arith;
+  long = long;
+}
 
 -- an output is heard where it is said, and else nothing changes
-module _ (says : Bool) (seat : ℕ) (o : Output) {l : Log} {t : List ℕ} {trail : Trail} where
-  pub says-so : {l′ : Log} {t′ : List ℕ} {trail′ : Trail} → says ≡ true →
-      Puts (message (o .kind) (o .round .0) seat true (o .valid) (o .name)) 1 l t trail l′ t′ trail′ →
-      Puts (own-message says seat o) (if says then 1 else 0) l t trail l′ t′ trail′
+module _ (says : Bool) (seat : ℕ) (o : Output) {l t trail : List ℕ} where
+  pub says-so : {l′ t′ trail′ : List ℕ} → says ≡ true → Puts (message o seat true) 1 (lent l t trail) (lent l′ t′ trail′) →
+      Puts (own-message says seat o) (if says then 1 else 0) (lent l t trail) (lent l′ t′ trail′)
   unfolding own-message
   says-so on p = rw on (record { desk = p .desk; places = p .places; back = p .back; count = p .count; long = p .long })
 
-  pub says-nothing : says ≡ false → seven trail → Puts (own-message says seat o) (if says then 1 else 0) l t trail l t trail
+  pub says-nothing : says ≡ false → length trail ≡ 15 → Puts (own-message says seat o) (if says then 1 else 0) (lent l t trail) (lent l t trail)
   unfolding own-message
-  says-nothing off long = rw off (record { desk = λ roll votes os. refl; places = refl; back = refl; count = omega arith; long = long })
+  says-nothing off long = rw off (record { desk = λ roll p os. refl; places = refl; back = refl; count = omega arith; long = long })

@@ -6,8 +6,8 @@ use native.Mathlib.Omega.{arith}
 use Rattle.rules.specs.declared.Phase.the-variants.{Running}
 use Rattle.rules.specs.declared.Input.{Input}
 use Rattle.rules.specs.State.{with-phase}
-use Rattle.rules.specs.Log.{Desk, with-state, the-log}
-use Rattle.rules.specs.Doing.{current, prevote, precommit}
+use Rattle.rules.specs.Log.{Desk, with-state, message, hear-vote}
+use Rattle.rules.specs.Doing.{current, vote}
 use Rattle.rules.specs.Rules.{first-rule, is-rule, fire, fire-49}
 use Rattle.rules.specs.Work.{take-in}
 use Rattle.rules.proofs.Firing.{enters, by-firing}
@@ -23,7 +23,7 @@ fire-keeps offer d less =
 
 -- an input goes to round 0, stays, or goes to the round after its own
 pub take-in-keeps : (i : Input) (d : Desk) → 1 ≤ i .kind → current d < d .rounds → (7 ≤ i .kind → suc (i .round .0) < d .rounds) → current (take-in i d) < d .rounds
-unfolding prevote precommit the-log
+unfolding vote message hear-vote
 take-in-keeps i d kind less next =
     by-input (λ u. current u < d .rounds) i d
     (λ e. rw (enters (i .offer) 0 (with-state (with-phase Running (d .state)) d) .ahead .round) (omega arith))

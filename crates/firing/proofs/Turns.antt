@@ -13,21 +13,19 @@ use Rattle.words.specs.Choice.{if_then_else_}
 use Rattle.words.proofs.Choice.{by-test, by-cases, and-left, and-right}
 use Rattle.roll.specs.declared.Roll.{Roll}
 use Rattle.rules.specs.declared.State.{State}
-use Rattle.rules.specs.declared.Votes.{Votes}
-use Rattle.rules.specs.declared.Log.{Log}
+use Rattle.rules.specs.declared.Progress.{Progress}
 use Rattle.rules.specs.declared.Input.{Input}
 use Rattle.rules.specs.declared.Output.{Output}
 use Rattle.rules.specs.declared.Sent.{Sent}
 use Rattle.rules.specs.State.{state-of}
-use Rattle.rules.specs.Log.{Desk, desk, hear-proposal, hear-prevote, hear-precommit, the-log}
-use Rattle.rules.specs.Doing.{own, send, the-doing}
+use Rattle.rules.specs.Log.{Desk, desk, message, hear-proposal, hear-vote, the-log}
+use Rattle.rules.specs.Doing.{own, own-heard, send, say, the-doing}
 use Rattle.rules.specs.Rules.{first-rule, is-rule, fire, the-rules}
 use Rattle.rules.specs.Work.{take-in, fire-all}
-use Rattle.rules.specs.Ready.{midway, packed, so-far}
+use Rattle.rules.specs.Sent.{packed}
+use Rattle.rules.specs.contracts.Ready.{midway, so-far}
 use Rattle.rules.proofs.Sends.{one-more}
-use Rattle.acts.specs.Acts.{own-heard}
-use Rattle.firing.specs.declared.Trail.{Trail}
-use Rattle.firing.specs.Trails.{message, own-message, Puts}
+use Rattle.firing.specs.contracts.Trails.{own-message, message-of, lent, Puts}
 use Rattle.firing.proofs.Handover.{packed-more, so-far-packed}
 
 -- no rule looks at what was sent
@@ -112,21 +110,21 @@ own-said o d =
 
 -- it sends nothing more
 own-sent : (o : Output) (d : Desk) → own-heard o d .sent ≡ d .sent
-unfolding hear-proposal hear-prevote hear-precommit
+unfolding message hear-proposal hear-vote
 own-sent o d =
     let P : Desk → Type 0 = λ u. u .sent ≡ d .sent in
     by-test P (eqb (o .kind) 1) (λ e. refl) (λ e. by-test P (eqb (o .kind) 2) (λ e. refl) (λ e. by-test P (eqb (o .kind) 3) (λ e. refl) (λ e. refl)))
 
 -- the outputs after an act, before its message is heard
-pub done-sent : (sends : Bool) (o : Output) (e : Desk) → also sends o (e .sent) ≡ (if sends then send o (own-heard o e) else e) .sent
+pub done-sent : (sends : Bool) (o : Output) (e : Desk) → also sends o (e .sent) ≡ (if sends then say o e else e) .sent
 done-sent true o e = ap (λ (x : List Output). x ++ (o ∷ [])) (sym (own-sent o e))
 done-sent false o e = refl
 
 -- and the desk, once it is
-pub moved : (sends : Bool) (o : Output) (roll : Roll) (v : Votes) {n : ℕ} {l l′ : Log} {t t′ : List ℕ} {trail trail′ : Trail} (os : List Output) →
-    Puts (own-message (sends && leb (o .kind) 3) (roll .own) o) n l t trail l′ t′ trail′ →
+pub moved : (sends : Bool) (o : Output) (roll : Roll) (v : Progress) {n : ℕ} {l l′ t t′ trail trail′ : List ℕ} (os : List Output) →
+    Puts (own-message (sends && leb (o .kind) 3) (roll .own) o) n (lent l t trail) (lent l′ t′ trail′) →
     midway (state-of roll v l′) t′ (also sends o os) ≡
-    (if sends then send o (own-heard o (midway (state-of roll v l) t os)) else midway (state-of roll v l) t os)
+    (if sends then say o (midway (state-of roll v l) t os) else midway (state-of roll v l) t os)
 unfolding own-message
 moved true o roll v {l = l} {t = t} os p = ap (send o) (p .desk roll v os ∙ own-said o (midway (state-of roll v l) t os))
 moved false o roll v os p = p .desk roll v os
@@ -134,7 +132,7 @@ moved false o roll v os p = p .desk roll v os
 -- ## An input that is a message
 
 pub message-is : (i : Input) (d : Desk) → (leb 2 (i .kind) && leb (i .kind) 4) ≡ true →
-    message (i .kind - 1) (i .round .0) (i .sender) (eqb (i .verdict) 1) (i .valid) (i .name) d ≡ take-in i d
+    message (message-of i) (i .sender) (eqb (i .verdict) 1) d ≡ take-in i d
 unfolding message take-in
 message-is i d mid =
     let low = leb-true 2 (i .kind) (and-left (leb 2 (i .kind)) (leb (i .kind) 4) mid) in

@@ -1,55 +1,54 @@
 // The work of a call: the input, and then the rules until none applies. The outputs are kept in order, and the table's places that
-// are written are kept with the names that they held, so that a call refused for room leaves no trace.
-use crate::Fired;
+// are written are kept in a trail with the names that they held, so that a call refused for room leaves no trace.
+use crate::Act;
 use crate::Trail;
 use crate::Worked;
-use acts::Act;
-use acts::doing::act;
-use acts::doing::begin;
+use crate::doing::act;
+use crate::doing::begin;
 use applies::when::first_rule;
-use roll::Power;
-use roll::Roll;
+use roll::PlusOne;
 use roll::Round;
+use rules::Given;
 use rules::Input;
+use rules::Log;
 use rules::Output;
+use rules::Progress;
 use rules::Rule;
 use rules::Sent;
+use rules::State;
 use rules::Votes;
+use rules::enums::is_rule;
 use rules::places::heard;
-use rules::places::precommits_place;
-use rules::places::prevotes_place;
+use rules::places::log_place;
+use rules::places::marks_place;
 use rules::places::proposal_place;
 use rules::places::proposed;
-use rules::tests::is_rule;
+use rules::places::votes_place;
 use words::marks::with_mark;
 ghost use Prim.Native.Nat.{_+_, _<_, _≤_};
 ghost use mathlib.Core.Path.{_≡_};
-ghost use mathlib.Core.List.{List};
 ghost use mathlib.Core.Bool.{true};
 ghost use lib.ListN.{length, getD, set};
 ghost use Rattle.words.specs.Choice.{if_then_else_};
 ghost use Rattle.words.specs.Marks.{mark};
-ghost use Rattle.roll.specs.Weighing.{total-of};
-ghost use Rattle.rules.specs.declared.Output.{Output};
-ghost use Rattle.rules.specs.State.{log-of, state-of};
-ghost use Rattle.rules.specs.Log.{desk, table-length};
-ghost use Rattle.rules.specs.Rules.{first-rule, is-rule, fire};
-ghost use Rattle.rules.specs.Work.{fire-all, work};
-ghost use Rattle.rules.specs.Ready.{Ready, Readable, midway, so-far};
-ghost use Rattle.acts.specs.Acts.{done, rule-fits};
-ghost use Rattle.firing.specs.Trails.{trail-of, longer, seven, undone, message, own-message, Puts, Firing, left-by, Leaves};
+ghost use Rattle.rules.specs.State.{most-rounds, log-length, state-of, proposal-at, valid-at};
+ghost use Rattle.rules.specs.Log.{message, hear-vote};
+ghost use Rattle.rules.specs.Rules.{fire};
+ghost use Rattle.rules.specs.Work.{fire-all};
+ghost use Rattle.rules.specs.contracts.Ready.{Ready};
+ghost use Rattle.firing.specs.contracts.Acts.{does-at, rule-fits};
+ghost use Rattle.firing.specs.contracts.Trails.{trail-length, no-trail, written, longer, undone, own-message, lent, Writable, Puts, Can-fire, Fires, Workable, all-firings, Leaves-work, Leaves-after};
 
-impl Trail {
-    // The table as it was before the writes of the trail, the last taken back first.
-    pub fn take_back(self, table: &mut [u64])
-        requires { ⌜ self .count ≤ 7 ⌝ }
-        ensures { λ _. ⌜ now (table .exit) ≡ undone self (now (table .entry)) ⌝ }
-    {
-        let mut left = self.count;
-        while 0 < left {
-            left -= 1;
-            write(table, self.places[left], self.names[left]);
-        }
+// The table as it was before the writes of a trail, the last taken back first.
+pub fn take_back(trail: &Trail, table: &mut [u64])
+    requires { ⌜ written (now trail) ≤ 7 ⌝ }
+    ensures { λ _. ⌜ now (table .exit) ≡ undone (now (trail .entry)) (now (table .entry)) ⌝ }
+{
+    let mut left = trail[0] as usize;
+    while 0 < left {
+        left -= 1;
+        let at = 2 * left + 1;
+        write(table, trail[at] as usize, trail[at + 1]);
     }
 }
 
@@ -62,425 +61,206 @@ fn write(table: &mut [u64], place: usize, name: u64)
     }
 }
 
-// A name in a place of the table, and the trail with the name that the place held.
-fn note(
-    count: usize,
-    places: &mut [usize; 7],
-    names: &mut [u64; 7],
-    table: &mut [u64],
-    place: usize,
-    name: u64,
-) -> usize
-    requires { ⌜ (count < 7) × (place < length (now table)) ⌝ }
-    ensures { λ n. ⌜ (now (table .exit) ≡ set (now (table .entry)) place name) × (trail-of n (now (places .exit)) (now (names .exit)) ≡ longer (trail-of count (now (places .entry)) (now (names .entry))) place (getD (now (table .entry)) place 0)) ⌝ }
+// A name in a place of the table, and the trail with the place and the name that it held.
+fn note(trail: &mut Trail, table: &mut [u64], place: usize, name: u64)
+    requires { ⌜ (written (now trail) < 7) × (place < length (now table)) ⌝ }
+    ensures { λ _. ⌜ (now (table .exit) ≡ set (now (table .entry)) place name) × (now (trail .exit) ≡ longer (now (trail .entry)) place (getD (now (table .entry)) place 0)) ⌝ }
 {
+    let count = trail[0];
+    let at = 2 * (count as usize) + 1;
     let held = table[place];
-    places[count] = place;
-    names[count] = held;
+    trail[at] = place as u64;
+    trail[at + 1] = held;
+    trail[0] = count + 1;
     table[place] = name;
-    count + 1
 }
 
-// A seat's vote in the marks of its round.
-fn mark_vote(marks: &mut [u32; 16], r: Round, seat: usize)
-    requires { ⌜ (r .0 < 16) × (seat < 32) ⌝ }
-    ensures { λ _. ⌜ now (marks .exit) ≡ set (now (marks .entry)) (r .0) (mark (getD (now (marks .entry)) (r .0) 0) seat) ⌝ }
+// A seat's vote in the marks at a place of the log.
+fn mark_vote(log: &mut Log, at: usize, seat: usize)
+    requires { ⌜ (at < log-length) × (seat < 32) ⌝ }
+    ensures { λ _. ⌜ now (log .exit) ≡ set (now (log .entry)) at (mark (getD (now (log .entry)) at 0) seat) ⌝ }
 {
-    let at = r.0 as usize;
-    let m = with_mark(marks[at], seat);
-    marks[at] = m;
+    let m = with_mark(log[at], seat);
+    log[at] = m;
 }
 
 // A proposal as the log has it, by its verdict.
-fn proposal_of(good: bool) -> u8
+fn proposal_of(good: bool) -> u32
     ensures { λ p. ⌜ p ≡ (if good then 2 else 1) ⌝ }
 {
     if good { 2 } else { 1 }
 }
 
 // A round's proposal, with its verdict and its valid round.
-fn mark_proposal(proposals: &mut [u8; 16], valids: &mut [u8; 16], r: Round, good: bool, valid: u8)
-    requires { ⌜ r .0 < 16 ⌝ }
-    ensures { λ _. ⌜ (now (proposals .exit) ≡ set (now (proposals .entry)) (r .0) (if good then 2 else 1)) × (now (valids .exit) ≡ set (now (valids .entry)) (r .0) valid) ⌝ }
+fn mark_proposal(log: &mut Log, r: Round, good: bool, valid: PlusOne)
+    requires { ⌜ r .0 < most-rounds ⌝ }
+    ensures { λ _. ⌜ now (log .exit) ≡ set (set (now (log .entry)) (proposal-at (r .0)) (if good then 2 else 1)) (valid-at (r .0)) (valid .0) ⌝ }
 {
-    let at = r.0 as usize;
+    let at = log_place(r);
     let p = proposal_of(good);
-    proposals[at] = p;
-    valids[at] = valid;
+    log[at + 2] = p;
+    log[at + 3] = valid.0 as u32;
 }
 
-// A message in the lent log and table: 1 a proposal, 2 a prevote, 3 a precommit.
-fn hear(
-    kind: u8,
+// A vote in the lent log and table.
+fn hear_vote(
+    v: Votes,
     r: Round,
     seat: usize,
-    good: bool,
-    valid: u8,
     name: u64,
-    count: usize,
-    places: &mut [usize; 7],
-    names: &mut [u64; 7],
-    prevotes: &mut [u32; 16],
-    precommits: &mut [u32; 16],
-    proposals: &mut [u8; 16],
-    valids: &mut [u8; 16],
+    trail: &mut Trail,
+    log: &mut Log,
     table: &mut [u64],
-) -> usize
-    requires { ⌜ (r .0 < 16) × (seat < 32) × (count < 7) × seven (trail-of count (now places) (now names)) × (length (now table) ≡ table-length) ⌝ }
-    ensures { λ n. ⌜ Puts (message kind (r .0) seat good valid name) 1 (log-of (now (prevotes .entry)) (now (precommits .entry)) (now (proposals .entry)) (now (valids .entry))) (now (table .entry)) (trail-of count (now (places .entry)) (now (names .entry))) (log-of (now (prevotes .exit)) (now (precommits .exit)) (now (proposals .exit)) (now (valids .exit))) (now (table .exit)) (trail-of n (now (places .exit)) (now (names .exit))) ⌝ }
+)
+    requires { ⌜ (r .0 < most-rounds) × (seat < 32) × Writable (now trail) (now table) ⌝ }
+    ensures { λ _. ⌜ Puts (λ d. hear-vote v d (r .0) seat name) 1 (lent (now (log .entry)) (now (table .entry)) (now (trail .entry))) (lent (now (log .exit)) (now (table .exit)) (now (trail .exit))) ⌝ }
 {
-    if kind == 1 {
-        mark_proposal(proposals, valids, r, good, valid);
-        return note(count, places, names, table, proposal_place(r), name);
+    mark_vote(log, marks_place(v, r), seat);
+    note(trail, table, votes_place(v, r) + seat, name);
+}
+
+// A message in the lent log and table; another output changes nothing.
+fn hear(o: Output, seat: usize, good: bool, trail: &mut Trail, log: &mut Log, table: &mut [u64])
+    requires { ⌜ (o .round .0 < most-rounds) × (seat < 32) × Writable (now trail) (now table) ⌝ }
+    ensures { λ _. ⌜ Puts (message o seat good) 1 (lent (now (log .entry)) (now (table .entry)) (now (trail .entry))) (lent (now (log .exit)) (now (table .exit)) (now (trail .exit))) ⌝ }
+{
+    let kind = o.kind;
+    let r = o.round;
+    if kind == Output::PROPOSAL {
+        mark_proposal(log, r, good, o.valid);
+        note(trail, table, proposal_place(r), o.name);
+        return;
     }
-    if kind == 2 {
-        mark_vote(prevotes, r, seat);
-        return note(count, places, names, table, prevotes_place(r) + seat, name);
+    if kind == Output::PREVOTE {
+        hear_vote(Votes::Prevotes, r, seat, o.name, trail, log, table);
+        return;
     }
-    if kind == 3 {
-        mark_vote(precommits, r, seat);
-        return note(
-            count,
-            places,
-            names,
-            table,
-            precommits_place(r) + seat,
-            name,
-        );
+    if kind == Output::PRECOMMIT {
+        hear_vote(Votes::Precommits, r, seat, o.name, trail, log, table);
+        return;
     }
-    count
 }
 
 // An output in the own log, where it is a message.
-fn hear_own(
-    says: bool,
-    o: Output,
-    seat: usize,
-    count: usize,
-    places: &mut [usize; 7],
-    names: &mut [u64; 7],
-    prevotes: &mut [u32; 16],
-    precommits: &mut [u32; 16],
-    proposals: &mut [u8; 16],
-    valids: &mut [u8; 16],
-    table: &mut [u64],
-) -> usize
-    requires { ⌜ ((says ≡ true → o .round .0 < 16)) × (seat < 32) × ((says ≡ true → count < 7)) × seven (trail-of count (now places) (now names)) × (length (now table) ≡ table-length) ⌝ }
-    ensures { λ n. ⌜ Puts (own-message says seat o) (if says then 1 else 0) (log-of (now (prevotes .entry)) (now (precommits .entry)) (now (proposals .entry)) (now (valids .entry))) (now (table .entry)) (trail-of count (now (places .entry)) (now (names .entry))) (log-of (now (prevotes .exit)) (now (precommits .exit)) (now (proposals .exit)) (now (valids .exit))) (now (table .exit)) (trail-of n (now (places .exit)) (now (names .exit))) ⌝ }
+fn hear_own(says: bool, o: Output, seat: usize, trail: &mut Trail, log: &mut Log, table: &mut [u64])
+    requires { ⌜ (seat < 32) × ((says ≡ true → o .round .0 < most-rounds)) × ((says ≡ true → Writable (now trail) (now table))) × (length (now trail) ≡ trail-length) ⌝ }
+    ensures { λ _. ⌜ Puts (own-message says seat o) (if says then 1 else 0) (lent (now (log .entry)) (now (table .entry)) (now (trail .entry))) (lent (now (log .exit)) (now (table .exit)) (now (trail .exit))) ⌝ }
 {
     if says {
-        return hear(
-            o.kind,
-            o.round,
-            seat,
-            true,
-            o.valid,
-            o.name,
-            count,
-            places,
-            names,
-            prevotes,
-            precommits,
-            proposals,
-            valids,
-            table,
-        );
+        hear(o, seat, true, trail, log, table);
+        return;
     }
-    count
 }
 
 // What a rule does, by what is heard of the current round.
-fn act_on<'a>(
-    votes: Votes,
-    rule: Rule,
-    roll: Roll,
-    offer: u64,
-    prevotes: &'a [u32; 16],
-    precommits: &'a [u32; 16],
-    proposals: &'a [u8; 16],
-    valids: &'a [u8; 16],
-    table: &[u64],
-) -> Act
-    requires { ⌜ Ready (state-of roll votes (log-of (now prevotes) (now precommits) (now proposals) (now valids))) (now table) × rule-fits rule ⌝ }
-    ensures { λ a. ⌜ ((os : List Output) → done a (midway (state-of roll votes (log-of (now (prevotes .entry)) (now (precommits .entry)) (now (proposals .entry)) (now (valids .entry)))) (now (table .entry)) os) ≡ fire rule offer (midway (state-of roll votes (log-of (now (prevotes .entry)) (now (precommits .entry)) (now (proposals .entry)) (now (valids .entry)))) (now (table .entry)) os)) × ((a .sends ≡ true → a .output .round .0 < 16)) ⌝ }
+fn act_on(progress: Progress, rule: Rule, given: Given, log: &Log, table: &[u64]) -> Act
+    requires { ⌜ Ready (state-of (given .roll) progress (now log)) (now table) × rule-fits rule ⌝ }
+    ensures { λ a. ⌜ does-at a (given .roll) progress (now (log .entry)) (now (table .entry)) (fire rule (given .offer)) ⌝ }
+    ensures { λ a. ⌜ (a .sends ≡ true → a .output .round .0 < most-rounds) ⌝ }
 {
-    let r = votes.stand.round;
-    let h = heard(prevotes, precommits, proposals, valids, r);
-    act(votes, h, proposed(table, r), rule, roll, offer)
+    let r = progress.stand.round;
+    let h = heard(log, r);
+    act(progress, h, proposed(table, r), rule, given)
 }
 
 // A rule that applies fires, and the list is begun again, with one firing less left, while a rule applies.
 fn fire(
-    votes: Votes,
+    progress: Progress,
     sent: Sent,
-    count: usize,
-    places: &mut [usize; 7],
-    names: &mut [u64; 7],
-    roll: Roll,
-    total: Power,
-    offer: u64,
+    given: Given,
     rule: Rule,
     left: usize,
-    prevotes: &mut [u32; 16],
-    precommits: &mut [u32; 16],
-    proposals: &mut [u8; 16],
-    valids: &mut [u8; 16],
+    trail: &mut Trail,
+    log: &mut Log,
     table: &mut [u64],
-) -> Fired
-    requires { ⌜ Firing (left + 1) offer (state-of roll votes (log-of (now prevotes) (now precommits) (now proposals) (now valids))) sent (trail-of count (now places) (now names)) (now table) × (rule ≡ first-rule (desk (state-of roll votes (log-of (now prevotes) (now precommits) (now proposals) (now valids))) (now table))) × (is-rule rule ≡ true) × (total .0 ≡ total-of roll) ⌝ }
-    ensures { λ f. ⌜ Leaves (fire-all (left + 1) offer (midway (state-of roll votes (log-of (now (prevotes .entry)) (now (precommits .entry)) (now (proposals .entry)) (now (valids .entry)))) (now (table .entry)) (so-far sent))) (undone (trail-of count (now (places .entry)) (now (names .entry))) (now (table .entry))) (state-of roll (f .votes) (log-of (now (prevotes .exit)) (now (precommits .exit)) (now (proposals .exit)) (now (valids .exit)))) (left-by f (now (places .exit)) (now (names .exit))) (now (table .exit)) ⌝ }
+) -> Worked
+    requires { ⌜ Fires (left + 1) given progress sent rule (lent (now log) (now table) (now trail)) ⌝ }
+    ensures { λ w. ⌜ Leaves-after (fire-all (left + 1) (given .offer)) given progress sent (lent (now (log .entry)) (now (table .entry)) (now (trail .entry))) w (lent (now (log .exit)) (now (table .exit)) (now (trail .exit))) ⌝ }
 {
-    let a = act_on(
-        votes,
-        rule,
-        roll,
-        offer,
-        prevotes,
-        precommits,
-        proposals,
-        valids,
-        table,
-    );
-    let next = a.votes;
+    let a = act_on(progress, rule, given, log, table);
+    let next = a.progress;
     let o = a.output;
-    let says = a.sends & (o.kind <= 3);
-    let kept = hear_own(
-        says,
-        o,
-        roll.own,
-        count,
-        places,
-        names,
-        prevotes,
-        precommits,
-        proposals,
-        valids,
-        table,
-    );
+    let roll = given.roll;
+    let says = a.sends & (o.kind <= Output::PRECOMMIT);
+    hear_own(says, o, roll.own, trail, log, table);
     let more = sent.send(a.sends, o);
     if left == 0 {
-        return Fired {
-            votes: next,
+        return Worked {
+            progress: next,
             sent: more,
-            count: kept,
         };
     }
-    let later = first_rule(
-        next,
-        roll,
-        prevotes,
-        precommits,
-        proposals,
-        valids,
-        table,
-        total,
-    );
+    let later = first_rule(next, roll, log, table, given.total);
     if !is_rule(later) {
-        return Fired {
-            votes: next,
+        return Worked {
+            progress: next,
             sent: more,
-            count: kept,
         };
     }
-    fire(
-        next,
-        more,
-        kept,
-        places,
-        names,
-        roll,
-        total,
-        offer,
-        later,
-        left - 1,
-        prevotes,
-        precommits,
-        proposals,
-        valids,
-        table,
-    )
+    fire(next, more, given, later, left - 1, trail, log, table)
 }
 
 // The rules, until none applies.
 fn fire_any(
-    votes: Votes,
+    progress: Progress,
     sent: Sent,
-    count: usize,
-    places: &mut [usize; 7],
-    names: &mut [u64; 7],
-    roll: Roll,
-    total: Power,
-    offer: u64,
-    prevotes: &mut [u32; 16],
-    precommits: &mut [u32; 16],
-    proposals: &mut [u8; 16],
-    valids: &mut [u8; 16],
+    given: Given,
+    trail: &mut Trail,
+    log: &mut Log,
     table: &mut [u64],
-) -> Fired
-    requires { ⌜ Firing 136 offer (state-of roll votes (log-of (now prevotes) (now precommits) (now proposals) (now valids))) sent (trail-of count (now places) (now names)) (now table) × (total .0 ≡ total-of roll) ⌝ }
-    ensures { λ f. ⌜ Leaves (fire-all 136 offer (midway (state-of roll votes (log-of (now (prevotes .entry)) (now (precommits .entry)) (now (proposals .entry)) (now (valids .entry)))) (now (table .entry)) (so-far sent))) (undone (trail-of count (now (places .entry)) (now (names .entry))) (now (table .entry))) (state-of roll (f .votes) (log-of (now (prevotes .exit)) (now (precommits .exit)) (now (proposals .exit)) (now (valids .exit)))) (left-by f (now (places .exit)) (now (names .exit))) (now (table .exit)) ⌝ }
+) -> Worked
+    requires { ⌜ Can-fire all-firings given progress sent (lent (now log) (now table) (now trail)) ⌝ }
+    ensures { λ w. ⌜ Leaves-after (fire-all all-firings (given .offer)) given progress sent (lent (now (log .entry)) (now (table .entry)) (now (trail .entry))) w (lent (now (log .exit)) (now (table .exit)) (now (trail .exit))) ⌝ }
 {
-    let rule = first_rule(
-        votes,
-        roll,
-        prevotes,
-        precommits,
-        proposals,
-        valids,
-        table,
-        total,
-    );
+    let rule = first_rule(progress, given.roll, log, table, given.total);
     if !is_rule(rule) {
-        return Fired { votes, sent, count };
+        return Worked { progress, sent };
     }
     fire(
-        votes,
+        progress,
         sent,
-        count,
-        places,
-        names,
-        roll,
-        total,
-        offer,
+        given,
         rule,
-        135,
-        prevotes,
-        precommits,
-        proposals,
-        valids,
+        State::FIRINGS - 1,
+        trail,
+        log,
         table,
     )
 }
 
-// An accepted input's whole work: a message goes in the log, start and a timer do what they do, and then the rules.
+// An accepted input's whole work: a message goes in the log, start and a timer do what they do, and then the rules. The trail is empty
+// as it begins.
 pub fn work(
-    votes: Votes,
+    progress: Progress,
     i: Input,
-    roll: Roll,
-    total: Power,
-    prevotes: &mut [u32; 16],
-    precommits: &mut [u32; 16],
-    proposals: &mut [u8; 16],
-    valids: &mut [u8; 16],
+    given: Given,
+    trail: &mut Trail,
+    log: &mut Log,
     table: &mut [u64],
 ) -> Worked
-    requires { ⌜ Ready (state-of roll votes (log-of (now prevotes) (now precommits) (now proposals) (now valids))) (now table) × Readable i × (length (work i (state-of roll votes (log-of (now prevotes) (now precommits) (now proposals) (now valids))) (now table) .sent) ≤ 6) × (total .0 ≡ total-of roll) ⌝ }
-    ensures { λ w. ⌜ Leaves (work i (state-of roll votes (log-of (now (prevotes .entry)) (now (precommits .entry)) (now (proposals .entry)) (now (valids .entry)))) (now (table .entry))) (now (table .entry)) (state-of roll (w .votes) (log-of (now (prevotes .exit)) (now (precommits .exit)) (now (proposals .exit)) (now (valids .exit)))) w (now (table .exit)) ⌝ }
+    requires { ⌜ Workable i given progress (now log) (now table) × (now trail ≡ no-trail) ⌝ }
+    ensures { λ w. ⌜ Leaves-work i given progress (now (log .entry)) (now (table .entry)) w (lent (now (log .exit)) (now (table .exit)) (now (trail .exit))) ⌝ }
 {
-    let mut places = [0usize; 7];
-    let mut names = [0u64; 7];
     let kind = i.kind;
     let sent = Sent::none();
-    if (2 <= kind) & (kind <= 4) {
-        let good = i.verdict == 1;
-        let kept = hear(
-            kind - 1,
-            i.round,
-            i.sender as usize,
-            good,
-            i.valid,
-            i.name,
-            0,
-            &mut places,
-            &mut names,
-            prevotes,
-            precommits,
-            proposals,
-            valids,
-            table,
-        );
-        // Asked here, not through `fire_any`, for speed: after most messages no rule applies.
-        let rule = first_rule(
-            votes,
-            roll,
-            prevotes,
-            precommits,
-            proposals,
-            valids,
-            table,
-            total,
-        );
-        if !is_rule(rule) {
-            return Worked {
-                votes,
-                sent,
-                trail: Trail {
-                    count: kept,
-                    places,
-                    names,
-                },
-            };
-        }
-        let f = fire(
-            votes,
-            sent,
-            kept,
-            &mut places,
-            &mut names,
-            roll,
-            total,
-            i.offer,
-            rule,
-            135,
-            prevotes,
-            precommits,
-            proposals,
-            valids,
-            table,
-        );
-        let after = f.votes;
-        let all = f.sent;
-        return Worked {
-            votes: after,
-            sent: all,
-            trail: Trail {
-                count: f.count,
-                places,
-                names,
-            },
+    let roll = given.roll;
+    if (Input::PROPOSAL <= kind) & (kind <= Input::PRECOMMIT) {
+        let round = i.round;
+        let valid = i.valid;
+        let o = Output {
+            kind: kind - 1,
+            round,
+            valid,
+            name: i.name,
         };
+        let good = i.verdict == 1;
+        hear(o, i.sender as usize, good, trail, log, table);
+        return fire_any(progress, sent, given, trail, log, table);
     }
-    let begun = begin(votes, i, roll);
-    let next = begun.votes;
+    let begun = begin(progress, i, given);
+    let next = begun.progress;
     let o = begun.output;
-    let says = begun.sends & (o.kind <= 3);
-    let kept = hear_own(
-        says,
-        o,
-        roll.own,
-        0,
-        &mut places,
-        &mut names,
-        prevotes,
-        precommits,
-        proposals,
-        valids,
-        table,
-    );
-    let f = fire_any(
-        next,
-        sent.send(begun.sends, o),
-        kept,
-        &mut places,
-        &mut names,
-        roll,
-        total,
-        i.offer,
-        prevotes,
-        precommits,
-        proposals,
-        valids,
-        table,
-    );
-    let after = f.votes;
-    let all = f.sent;
-    Worked {
-        votes: after,
-        sent: all,
-        trail: Trail {
-            count: f.count,
-            places,
-            names,
-        },
-    }
+    let says = begun.sends & (o.kind <= Output::PRECOMMIT);
+    hear_own(says, o, roll.own, trail, log, table);
+    fire_any(next, sent.send(begun.sends, o), given, trail, log, table)
 }

@@ -1,26 +1,25 @@
-// The work of a call: the rules fired in turn, with the way back.
+// What each rule, start and each timer does, as one act; the work of a call: the rules fired in turn, with the way back.
+pub mod doing;
 pub mod fire;
 
+use rules::Output;
+use rules::Progress;
 use rules::Sent;
-use rules::Votes;
 
-// The places of the table that a call wrote, in order, with the names that they held before.
-pub struct Trail {
-    pub count: usize,
-    pub places: [usize; 7],
-    pub names: [u64; 7],
+// What a kiosk does at once: its votes after it, and at most one output. An own message among the outputs goes in the own log.
+pub struct Act {
+    pub progress: Progress,
+    pub sends: bool,
+    pub output: Output,
 }
 
-// What firing leaves beside the lent log, table and trail: the votes, the outputs, and the trail's count.
-pub struct Fired {
-    pub votes: Votes,
-    pub sent: Sent,
-    pub count: usize,
-}
+// How many places of the table were written, and then each with the name that it held: room for seven.
+pub const TRAIL: usize = 15;
 
-// The work of a call: the votes after it, the outputs, and the way back. The log is in the lent arrays.
+pub type Trail = [u64; TRAIL];
+
+// The work of a call: the progress after it, and the outputs. The log, the table and the trail are in the lent arrays.
 pub struct Worked {
-    pub votes: Votes,
+    pub progress: Progress,
     pub sent: Sent,
-    pub trail: Trail,
 }

@@ -19,17 +19,17 @@ use Rattle.rules.specs.declared.Output.{Output}
 use Rattle.rules.specs.Log.{Desk, desk}
 use Rattle.rules.specs.State.{is-fresh, is-settled}
 use Rattle.rules.specs.Doing.{own}
-use Rattle.rules.specs.Ready.{packed}
+use Rattle.rules.specs.Sent.{packed}
 use Rattle.rules.specs.Work.{work}
 use Rattle.rules.proofs.Same.{work-roll}
 use Rattle.journal.specs.Layout.{header-length, group-bytes, group-length}
 use Rattle.journal.specs.Readback.{count-of}
 use Rattle.journal.proofs.Roundtrip.{length-group}
-use Rattle.answers.specs.declared.Answer.{Answer}
-use Rattle.answers.specs.declared.Answer.the-variants.{Accepted, Impossible, NoRoom}
-use Rattle.answers.specs.Answers.{number-of, is-accepted}
+use Rattle.refusals.specs.declared.Answer.{Answer}
+use Rattle.refusals.specs.declared.Answer.the-variants.{Accepted, Impossible, NoRoom}
+use Rattle.refusals.specs.Answers.{number-of, is-accepted}
 use Rattle.refusals.specs.Possible.{desk-fits}
-use Rattle.refusals.specs.Refusals.{is-start, is-proposal, is-vote, is-timer, fields-fit, place-heard, same-heard, timer-due, refused-message, refused-input}
+use Rattle.refusals.specs.Refusals.{is-start, is-proposal, is-vote, is-timer, fields-fit, place-heard, same-heard, timer-due, refused-from-6, refused-input}
 use Rattle.kiosk.specs.declared.Kiosk.{Kiosk}
 use Rattle.kiosk.specs.declared.Reply.{Reply}
 use Rattle.kiosk.specs.Judged.{used-fits, judged}
@@ -54,10 +54,10 @@ record Other (a : Answer) : Type 0 where
 
 -- the refusals of an input, 2 to 11, are neither
 inputs-other : (d : Desk) (i : Input) → Other (refused-input d i)
-unfolding refused-input refused-message
+unfolding refused-input refused-from-6
 inputs-other d i =
-    by-test Other (is-settled (d .state .phase)) (λ t. record { off = refl }) (λ f.
-    by-test Other (if is-fresh (d .state .phase) then not (is-start i) else is-start i) (λ t. record { off = refl }) (λ f.
+    by-test Other (is-settled (d .state .progress .phase)) (λ t. record { off = refl }) (λ f.
+    by-test Other (if is-fresh (d .state .progress .phase) then not (is-start i) else is-start i) (λ t. record { off = refl }) (λ f.
     by-test Other (not (eqb (i .height .0) (d .state .roll .height .0))) (λ t. record { off = refl }) (λ f.
     by-test Other (not (fields-fit (d .state .roll .kiosks) (d .rounds) i)) (λ t. record { off = refl }) (λ f.
     by-test Other ((is-proposal i || is-vote i) && eqb (i .sender) (own d)) (λ t. record { off = refl }) (λ f.
@@ -166,7 +166,7 @@ module _ (i : Input) (k : Kiosk) (t j : List ℕ) {r : Reply} {t′ j′ : List 
   unfolding used-fits
   accepted-possible =
       let n : ℕ = k .used + group-length os in
-      let head = header-length (k .state .roll .kiosks) in
+      let head = header-length (k .state .roll) in
       let low = accepted-used (k .used) k t i (puts .taken) .1 in (
         rw (kiosk-is, says .table-is ∙ ap (λ (o : Called). o .table) (puts .gives)) (possible-after p i (puts .taken)),
         rw (kiosk-is, accepted-within .0, work-roll i (k .state) t, le-leb head n (omega arith), le-leb n (length j) (puts .room), le-leb (k .used) n (omega arith)),

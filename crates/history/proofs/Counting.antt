@@ -1,6 +1,7 @@
 -- Laws of the count: sums, marks, and the messages of a round. Assumes nothing.
 use Prim.Native.Nat.{ℕ, zero, suc, _+_, _*_, _≤_, _<_}
 use mathlib.Core.Path.{_≡_, refl, ap, sym, _∙_}
+use mathlib.Core.List.{List}
 use mathlib.Core.Bool.{Bool, true, false, _||_}
 use mathlib.Core.Logic.{⊎-elim}
 use native.Mathlib.Nat.{eq-or-lt-of-le}
@@ -11,10 +12,12 @@ use Rattle.words.specs.Choice.{if_then_else_}
 use Rattle.words.specs.Marks.{marked, mark}
 use Rattle.words.proofs.MarkLaws.{mark-seats, marked-zero}
 use Rattle.roll.specs.declared.Roll.{Roll}
+use Rattle.rules.specs.declared.Votes.{Votes}
+use Rattle.rules.specs.declared.Votes.the-variants.{Prevotes, Precommits}
 use Rattle.rules.specs.declared.Heard.{Heard}
-use Rattle.rules.specs.declared.Log.{Log}
+use Rattle.rules.specs.State.{marks-of, with-marks}
 use Rattle.rules.specs.Log.{told, tell}
-use Rattle.rules.proofs.Hearing.{Sized, told-same, told-other}
+use Rattle.rules.proofs.Telling.{Sized, told-same, told-other}
 use Rattle.history.specs.Counting.{sum-below, unmarked, messages-left, all-messages-left}
 
 -- ## Sums
@@ -79,13 +82,20 @@ none-marked n own l =
 
 -- ## The messages of a round, and of all
 
+-- a round with other marks of one type has c messages fewer where those have
+pub votes-left : (v : Votes) (roll : Roll) (h : Heard) (m c : ℕ) → unmarked (roll .kiosks) (roll .own) m + c ≡ unmarked (roll .kiosks) (roll .own) (marks-of v h)
+    → messages-left roll (with-marks v m h) + c ≡ messages-left roll h
+unfolding messages-left
+votes-left Prevotes roll h m c e = omega (arith, e)
+votes-left Precommits roll h m c e = omega (arith, e)
+
 -- a round told of c messages that were left
-pub tells : (n : ℕ) (roll : Roll) (l : Log) → Sized n l → (r : ℕ) (h : Heard) (c : ℕ) → r < n → messages-left roll h + c ≤ messages-left roll (told l r)
+pub tells : (n : ℕ) (roll : Roll) (l : List ℕ) → Sized n l → (r : ℕ) (h : Heard) (c : ℕ) → r < n → messages-left roll h + c ≤ messages-left roll (told l r)
     → all-messages-left n roll (tell l r h) + c ≤ all-messages-left n roll l
 unfolding all-messages-left
 tells n roll l s r h c less fewer =
     let f : ℕ → ℕ = λ q. messages-left roll (told (tell l r h) q) in
     let g : ℕ → ℕ = λ q. messages-left roll (told l q) in
     let e : sum-below n f + g r ≡ sum-below n g + f r = sum-one n f g r less (λ q z. ap (messages-left roll) (told-other l r h z)) in
-    let fr : f r ≡ messages-left roll h = ap (messages-left roll) (told-same n l s r h less) in
+    let fr : f r ≡ messages-left roll h = ap (messages-left roll) (told-same l r h s less) in
     omega arith

@@ -9,7 +9,7 @@ pub mod Names
 pub mod Readback
 pub mod Counting
 pub mod Room
-pub mod Silence
+pub mod Unheard
 pub mod Calls
 pub mod Replies
 pub mod OneHistory

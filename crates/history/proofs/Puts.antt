@@ -19,8 +19,8 @@ use Rattle.rules.specs.declared.Input.{Input}
 use Rattle.rules.specs.Log.{desk, table-length}
 use Rattle.journal.specs.Layout.{header-bytes, header-length, group-bytes, group-length}
 use Rattle.journal.proofs.Roundtrip.{length-group}
-use Rattle.answers.specs.declared.Answer.the-variants.{Accepted}
-use Rattle.answers.specs.Answers.{is-accepted}
+use Rattle.refusals.specs.declared.Answer.the-variants.{Accepted}
+use Rattle.refusals.specs.Answers.{is-accepted}
 use Rattle.kiosk.specs.Judged.{judged}
 use Rattle.kiosk.specs.Calls.{Called, Created, create, put, accepted}
 use Rattle.kiosk.specs.Opening.{opened, open-journal}
@@ -145,17 +145,17 @@ module _ (powers : List ℕ) (own height : ℕ) (journal : List ℕ) (tall : hei
   roll = roll-with powers own height
 
   created-so : is-accepted (create powers own height journal .answer) ≡ true
-      → (roll-fits roll ≡ true) × (own-fits roll ≡ true) × (header-length (length powers) ≤ length journal)
-      × (create powers own height journal ≡ record { answer = Accepted; used = header-length (length powers); journal = overwrite journal 0 (header-bytes roll) })
+      → (roll-fits roll ≡ true) × (own-fits roll ≡ true) × (header-length roll ≤ length journal)
+      × (create powers own height journal ≡ record { answer = Accepted; used = header-length roll; journal = overwrite journal 0 (header-bytes roll) })
   unfolding create
   created-so =
-      let o : Created = record { answer = Accepted; used = header-length (length powers); journal = overwrite journal 0 (header-bytes roll) } in
-      let P : Created → Type 0 = λ r. is-accepted (r .answer) ≡ true → (roll-fits roll ≡ true) × (own-fits roll ≡ true) × (header-length (length powers) ≤ length journal) × (r ≡ o) in
+      let o : Created = record { answer = Accepted; used = header-length roll; journal = overwrite journal 0 (header-bytes roll) } in
+      let P : Created → Type 0 = λ r. is-accepted (r .answer) ≡ true → (roll-fits roll ≡ true) × (own-fits roll ≡ true) × (header-length roll ≤ length journal) × (r ≡ o) in
       by-test P (not (roll-fits roll && own-fits roll)) (λ e h. absurd (false≢true h))
-      (λ e. by-test P (ltb (length journal) (header-length (length powers))) (λ f h. absurd (false≢true h))
+      (λ e. by-test P (ltb (length journal) (header-length roll)) (λ f h. absurd (false≢true h))
       (λ f h.
       let both = not-false (roll-fits roll && own-fits roll) e in
-      (and-left (roll-fits roll) (own-fits roll) both, and-right (roll-fits roll) (own-fits roll) both, ltb-false (length journal) (header-length (length powers)) f, refl)))
+      (and-left (roll-fits roll) (own-fits roll) both, and-right (roll-fits roll) (own-fits roll) both, ltb-false (length journal) (header-length roll) f, refl)))
 
   pub create-begins : is-accepted (create powers own height journal .answer) ≡ true → History roll [] (beginning roll)
   create-begins on =
@@ -176,7 +176,7 @@ module _ (powers : List ℕ) (own height : ℕ) (journal : List ℕ) (tall : hei
       let head = header-bytes roll in
       let rest : List ℕ = drop (0 + length head) journal in
       ap (λ (r : Created). take (r .used) (r .journal)) (x .3)
-      ∙ take-at head rest (header-length (length powers)) (created-length roll (create-begins on .created))
+      ∙ take-at head rest (header-length roll) (created-length roll (create-begins on .created))
       ∙ sym (append-nil head)
 
 -- ## Histories are what `put` makes

@@ -70,7 +70,7 @@ all-plain {roll} (told-more {p} {q} {c} {cs} t w e later) s n =
 -- ## One group
 
 same-output : {k k′ r r′ v v′ n n′ : ℕ} → k ≡ k′ → r ≡ r′ → v ≡ v′ → n ≡ n′
-    → _≡_ {A = Output} (record { kind = k; round = record { 0 = r }; valid = v; name = n }) (record { kind = k′; round = record { 0 = r′ }; valid = v′; name = n′ })
+    → _≡_ {A = Output} (record { kind = k; round = record { 0 = r }; valid = record { 0 = v }; name = n }) (record { kind = k′; round = record { 0 = r′ }; valid = record { 0 = v′ }; name = n′ })
 same-output a b c d = rw (a, b, c, d)
 
 output-back : (pre s : List ℕ) (j : ℕ) (o : Output) → length pre ≡ 26 + 12 * j → Narrow (o .name) → output-of (pre ++ (output-bytes o ++ s)) j ≡ o
@@ -145,19 +145,19 @@ groups-back height (suc left) (one-call {c} {cs} p later) long =
     (ap (λ (x : Call). x ∷ map (call-of height) (groups-of left rest)) (call-back height c p)
     ∙ ap (λ (l : List Call). c ∷ l) (groups-back height left later (omega arith)))
 
-calls-back : {roll : Roll} {cs : List Call} {p : Past} → History roll cs p → calls-in (roll .height) (drop (header-length (roll .kiosks)) (written roll cs)) ≡ cs
+calls-back : {roll : Roll} {cs : List Call} {p : Past} → History roll cs p → calls-in (roll .height) (drop (header-length roll) (written roll cs)) ≡ cs
 calls-back {roll} {cs} h =
     let c = h .created in
     let b : List ℕ = in-order call-bytes cs in
     let start : Steady roll (beginning roll) = steady (record { created = c; told = told-none }) in
     let zeros : Wide-names (beginning roll) = record { table = λ place. rw (zeros-at table-length place) (omega arith); locked = omega arith; valid = omega arith } in
-    ap (calls-in (roll .height)) (drop-at (header-bytes roll) b (header-length (roll .kiosks)) (created-length roll c))
+    ap (calls-in (roll .height)) (drop-at (header-bytes roll) b (header-length roll) (created-length roll c))
     ∙ groups-back (roll .height) (length b) (all-plain (h .told) start zeros) (omega arith)
 
 -- The records read back as what was done: from the bytes alone, the history's own calls
 pub reads-back : {roll : Roll} {cs : List Call} {p : Past} → History roll cs p → records (written roll cs) ≡ cs
 reads-back {roll} {cs} h =
-    ap (λ (x : Roll). calls-in (x .height) (drop (header-length (x .kiosks)) (written roll cs))) (created-roll roll (h .created) (in-order call-bytes cs)) ∙ calls-back h
+    ap (λ (x : Roll). calls-in (x .height) (drop (header-length x) (written roll cs))) (created-roll roll (h .created) (in-order call-bytes cs)) ∙ calls-back h
 
 -- The last group that is shown is the one written last
 pub last-shown : (from : ℕ) (os : List Output) (s : State) (w g journal : List ℕ) → length w ≡ from → from + group-length os ≤ length journal

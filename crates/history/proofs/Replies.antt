@@ -8,10 +8,10 @@ use Rattle.roll.specs.declared.Roll.{Roll}
 use Rattle.roll.specs.Weighing.{roll-with}
 use Rattle.rules.specs.declared.Input.{Input}
 use Rattle.rules.specs.Log.{desk, table-length}
-use Rattle.rules.specs.Ready.{packed}
+use Rattle.rules.specs.Sent.{packed}
 use Rattle.journal.specs.Layout.{roomy}
-use Rattle.answers.specs.declared.Answer.the-variants.{Accepted, Impossible, NoRoom}
-use Rattle.answers.specs.Answers.{is-accepted}
+use Rattle.refusals.specs.declared.Answer.the-variants.{Accepted, Impossible, NoRoom}
+use Rattle.refusals.specs.Answers.{is-accepted}
 use Rattle.refusals.specs.Refusals.{refused-input}
 use Rattle.kiosk.specs.declared.Made.{Made}
 use Rattle.kiosk.specs.declared.Reply.{Reply}

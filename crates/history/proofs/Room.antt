@@ -10,39 +10,42 @@ use lib.Dec.{eqb}
 use lib.ListN.{length}
 use Rattle.words.specs.Marks.{mark}
 use Rattle.words.proofs.Choice.{by-test, by-cases}
-use Rattle.words.proofs.Places.{zeros-at}
 use Rattle.roll.specs.declared.Roll.{Roll}
 use Rattle.roll.specs.Weighing.{proposer}
+use Rattle.rules.specs.declared.Votes.{Votes}
+use Rattle.rules.specs.declared.Votes.the-variants.{Prevotes, Precommits}
 use Rattle.rules.specs.declared.Heard.{Heard}
 use Rattle.rules.specs.declared.Input.{Input}
-use Rattle.rules.specs.declared.Log.{Log}
 use Rattle.rules.specs.declared.Phase.{Phase}
 use Rattle.rules.specs.declared.Phase.the-variants.{Fresh, Running, Settled}
 use Rattle.rules.specs.declared.Stand.{Stand}
-use Rattle.rules.specs.declared.Step.the-variants.{Prevote, Precommit}
-use Rattle.rules.specs.State.{most-rounds, rounds-of, is-fresh, is-running, is-propose, is-prevote, spoken, silence, quiet, held}
+use Rattle.rules.specs.declared.Step.the-variants.{Prevote, Precommit, Propose}
+use Rattle.rules.specs.Kinds.{vote-out}
+use Rattle.rules.specs.State.{most-rounds, rounds-of, is-fresh, is-running, is-propose, is-prevote, marks-of, with-marks, spoken, empty-log, held}
 use Rattle.rules.specs.State.{entered, before-start, with-phase, with-stand, with-locked, with-backed, with-step}
-use Rattle.rules.specs.Log.{Desk, desk, with-state, logged, told, tell, heard, hear-proposal, hear-prevote, hear-precommit}
-use Rattle.rules.specs.Doing.{current, step, own, output, propose, prevote, precommit, ask-propose, ask-prevote, ask-precommit, sheet-to-propose, start-round}
+use Rattle.rules.specs.Log.{Desk, desk, with-state, logged, told, tell, heard, message, hear-proposal, hear-vote}
+use Rattle.rules.specs.Doing.{current, step, own, step-of, output, propose, vote, ask, sheet-to-propose, start-round}
 use Rattle.rules.specs.Rules.{fire-49}
 use Rattle.rules.specs.Work.{take-in, most-firings, worked}
 use Rattle.rules.proofs.ByRule.{Runs}
-use Rattle.rules.proofs.Hearing.{Sized, sized-tell}
+use Rattle.rules.proofs.Telling.{Sized, sized-tell}
+use Rattle.rules.proofs.Hearing.{vote-is}
 use Rattle.rules.proofs.Deeds.{holding, Deed, prevotes, precommits-nil, locks, holds, asks-prevote, asks-precommit, settles, enters, firing-keeps}
-use Rattle.rules.specs.Room.{unless}
+use Rattle.rules.specs.contracts.Room.{steps-left, unless}
 use Rattle.rules.proofs.Room.{propose-left, prevote-left}
 use Rattle.rules.proofs.Same.{worked-same}
 use Rattle.rules.proofs.Sends.{one-more}
 use Rattle.journal.specs.Layout.{header-length, group-length, roomy}
-use Rattle.answers.specs.Answers.{is-accepted}
+use Rattle.refusals.specs.Answers.{is-accepted}
 use Rattle.refusals.specs.Refusals.{refused-input}
 use Rattle.kiosk.specs.Calls.{Called, put}
 use Rattle.kiosk.specs.Judged.{judged}
 use Rattle.kiosk.proofs.Accepted.{Passes, accepted-is, accepted-passes}
-use Rattle.kiosk.proofs.Taken.{Message, Taken, starts, hears-proposal, hears-prevote, hears-precommit, timer, taken, timer-current, timer-propose, timer-prevote, timer-next}
+use Rattle.kiosk.proofs.Taken.{Message, Taken, starts, hears-proposal, hears-vote, timer, taken, timer-current, timer-propose, timer-prevote, timer-next}
+use Rattle.kiosk.proofs.Replays.{nothing-told}
 use Rattle.history.specs.Histories.{Call, Past, does, after, takes, History}
 use Rattle.history.specs.Counting.{sum-below, messages-left, all-messages-left, stand-left, phase-left, bytes-left, room-for}
-use Rattle.history.proofs.Counting.{own-marked, other-marked, none-marked, sum-ext, sum-const, tells}
+use Rattle.history.proofs.Counting.{own-marked, other-marked, none-marked, sum-ext, sum-const, votes-left, tells}
 use Rattle.history.proofs.Finding.{judged-area}
 use Rattle.history.proofs.Telling.{history-keeps}
 use Rattle.history.proofs.Steady.{never-impossible}
@@ -50,7 +53,7 @@ use Rattle.history.proofs.Steady.{never-impossible}
 -- ## What the count needs of a desk
 
 -- a current round that there is, and a log with a place for each
-pub record Roomy-so (rounds round : ℕ) (l : Log) : Type 0 where
+pub record Roomy-so (rounds round : ℕ) (l : List ℕ) : Type 0 where
   pub there : round < rounds
   pub sized : Sized rounds l
 
@@ -95,107 +98,94 @@ module _ (d : Desk) (ok : Roomy d) where
   rl = d .state .roll
 
   -- an own vote takes no message of another seat
-  own-prevote : let h = heard d cur in
-      all-messages-left R rl (tell (d .state .log) cur (record { prevotes = mark (h .prevotes) (own d); precommits = h .precommits; proposal = h .proposal; valid = h .valid })) + 0
-      ≤ all-messages-left R rl (d .state .log)
-  unfolding messages-left
-  own-prevote =
-      tells R rl (d .state .log) (ok .sized) cur _ 0 (ok .there) (omega (arith, own-marked (rl .kiosks) (rl .own) (heard d cur .prevotes)))
-
-  own-precommit : let h = heard d cur in
-      all-messages-left R rl (tell (d .state .log) cur (record { prevotes = h .prevotes; precommits = mark (h .precommits) (own d); proposal = h .proposal; valid = h .valid })) + 0
-      ≤ all-messages-left R rl (d .state .log)
-  unfolding messages-left
-  own-precommit =
-      tells R rl (d .state .log) (ok .sized) cur _ 0 (ok .there) (omega (arith, own-marked (rl .kiosks) (rl .own) (heard d cur .precommits)))
+  own-vote : (v : Votes) → let h = heard d cur in
+      all-messages-left R rl (tell (d .state .log) cur (with-marks v (mark (marks-of v h) (own d)) h)) + 0 ≤ all-messages-left R rl (d .state .log)
+  own-vote v =
+      let h = heard d cur in
+      tells R rl (d .state .log) (ok .sized) cur _ 0 (ok .there)
+      (omega (arith, votes-left v rl h (mark (marks-of v h) (own d)) 0 (let e = own-marked (rl .kiosks) (rl .own) (marks-of v h) in omega (arith, e))))
 
   module _ (run : Runs d) where
-    prevote-pays : (name : ℕ) → is-propose (step d) ≡ true → Pays 26 d (prevote name d)
-    unfolding prevote hear-prevote bytes-left phase-left stand-left
-    prevote-pays name e =
-        let s = d .state .stand in
-        let a = runs-left (d .state .phase) R s run in
-        let b = runs-left (d .state .phase) R (with-step Prevote s) run in
-        let two = propose-left (s .step) e in
-        record {
-          still = record { there = ok .there; sized = sized-tell R (d .state .log) cur _ (ok .sized) };
-          pays = omega (arith, one-more (d .sent) (output 2 cur 0 name), own-prevote);
-        }
+    vote-pays : (v : Votes) (name : ℕ) → steps-left (step d) ≡ suc (steps-left (step-of v)) → Pays 26 d (vote v name d)
+    unfolding hear-vote bytes-left phase-left stand-left
+    vote-pays v name one =
+        let s = d .state .progress .stand in
+        let a = runs-left (d .state .progress .phase) R s run in
+        let b = runs-left (d .state .progress .phase) R (with-step (step-of v) s) run in
+        rw (vote-is v name d)
+        (record {
+          still = record { there = ok .there; sized = sized-tell (d .state .log) cur _ (ok .sized) };
+          pays = omega (arith, one-more (d .sent) (output (vote-out v) cur 0 name), own-vote v);
+        })
 
-    precommit-pays : (name : ℕ) → is-prevote (step d) ≡ true → Pays 26 d (precommit name d)
-    unfolding precommit hear-precommit bytes-left phase-left stand-left
-    precommit-pays name e =
-        let s = d .state .stand in
-        let a = runs-left (d .state .phase) R s run in
-        let b = runs-left (d .state .phase) R (with-step Precommit s) run in
-        let one = prevote-left (s .step) e in
-        record {
-          still = record { there = ok .there; sized = sized-tell R (d .state .log) cur _ (ok .sized) };
-          pays = omega (arith, one-more (d .sent) (output 3 cur 0 name), own-precommit);
-        }
+    prevote-pays : (name : ℕ) → is-propose (step d) ≡ true → Pays 26 d (vote Prevotes name d)
+    prevote-pays name e = vote-pays Prevotes name (propose-left (step d) e)
+
+    precommit-pays : (name : ℕ) → is-prevote (step d) ≡ true → Pays 26 d (vote Precommits name d)
+    precommit-pays name e = vote-pays Precommits name (prevote-left (step d) e)
 
     -- to mark the round and hold a sheet takes no bytes
     hold-pays : (name : ℕ) → Pays 0 d (with-state (holding name d) d) × Pays 0 d (with-state (with-locked (held cur name) (holding name d)) d)
     unfolding bytes-left phase-left stand-left
     hold-pays name =
-        let a = runs-left (d .state .phase) R (d .state .stand) run in
-        let b = runs-left (d .state .phase) R (with-backed (d .state .stand)) run in
+        let a = runs-left (d .state .progress .phase) R (d .state .progress .stand) run in
+        let b = runs-left (d .state .progress .phase) R (with-backed (d .state .progress .stand)) run in
         (record { still = ok; pays = omega arith }, record { still = ok; pays = omega arith })
 
-    ask-prevote-pays : d .state .stand .asked .prevote ≡ false → Pays 0 d (ask-prevote d)
-    unfolding ask-prevote bytes-left phase-left stand-left
+    ask-prevote-pays : d .state .progress .stand .asked .prevote ≡ false → Pays 0 d (ask Prevote d)
+    unfolding ask bytes-left phase-left stand-left
     ask-prevote-pays e =
-        let s = d .state .stand in
-        let a = runs-left (d .state .phase) R s run in
-        let b = runs-left (d .state .phase) R (ask-prevote d .state .stand) run in
+        let s = d .state .progress .stand in
+        let a = runs-left (d .state .progress .phase) R s run in
+        let b = runs-left (d .state .progress .phase) R (ask Prevote d .state .progress .stand) run in
         let one : unless (s .asked .prevote) ≡ 1 = rw e in
         record { still = ok; pays = omega (arith, one-more (d .sent) (output 5 cur 0 0)) }
 
-    ask-precommit-pays : d .state .stand .asked .precommit ≡ false → Pays 0 d (ask-precommit d)
-    unfolding ask-precommit bytes-left phase-left stand-left
+    ask-precommit-pays : d .state .progress .stand .asked .precommit ≡ false → Pays 0 d (ask Precommit d)
+    unfolding ask bytes-left phase-left stand-left
     ask-precommit-pays e =
-        let s = d .state .stand in
-        let a = runs-left (d .state .phase) R s run in
-        let b = runs-left (d .state .phase) R (ask-precommit d .state .stand) run in
+        let s = d .state .progress .stand in
+        let a = runs-left (d .state .progress .phase) R s run in
+        let b = runs-left (d .state .progress .phase) R (ask Precommit d .state .progress .stand) run in
         let one : unless (s .asked .precommit) ≡ 1 = rw e in
         record { still = ok; pays = omega (arith, one-more (d .sent) (output 6 cur 0 0)) }
 
     settle-pays : (r name : ℕ) → Pays 0 d (fire-49 r name d)
     unfolding fire-49 bytes-left phase-left
     settle-pays r name =
-        let a = runs-left (d .state .phase) R (d .state .stand) run in
+        let a = runs-left (d .state .progress .phase) R (d .state .progress .stand) run in
         record { still = ok; pays = omega (arith, one-more (d .sent) (output 7 r 0 name)) }
 
 -- a round entered: one output, and all of the round is left
 entered-weighs : (d : Desk) → Sized (d .rounds) (d .state .log) → Runs d → (offer r : ℕ) → r < d .rounds
     → Roomy (start-round offer r d)
     × (weight (start-round offer r d) ≤ 12 * length (d .sent) + 124 + 138 * (d .rounds - suc r) + 26 * all-messages-left (d .rounds) (d .state .roll) (d .state .log))
-unfolding start-round propose ask-propose hear-proposal bytes-left phase-left stand-left messages-left
+unfolding start-round propose ask message hear-proposal bytes-left phase-left stand-left messages-left
 entered-weighs d sized run offer r less =
     let n = d .rounds in
     let e = with-state (with-stand (entered r) (d .state)) d in
     let sheet = sheet-to-propose offer d in
     let h = heard d r in
     let P : Desk → Type 0 = λ u. Roomy u × (weight u ≤ 12 * length (d .sent) + 124 + 138 * (n - suc r) + 26 * all-messages-left n (d .state .roll) (d .state .log)) in
-    let a = runs-left (d .state .phase) n (entered r) run in
-    by-test P (eqb (proposer (d .state .roll) r) (own d) && not (eqb sheet 0)) {x = propose (d .state .valid .next) sheet e} {y = ask-propose e}
+    let a = runs-left (d .state .progress .phase) n (entered r) run in
+    by-test P (eqb (proposer (d .state .roll) r) (own d) && not (eqb sheet 0)) {x = propose (d .state .progress .valid .next .0) sheet e} {y = ask Propose e}
     (λ t. (
-      record { there = less; sized = sized-tell n (d .state .log) r _ sized },
+      record { there = less; sized = sized-tell (d .state .log) r _ sized },
       omega (
         arith,
-        one-more (d .sent) (output 1 r (d .state .valid .next) sheet),
-        tells n (d .state .roll) (d .state .log) sized r (record { prevotes = h .prevotes; precommits = h .precommits; proposal = 2; valid = d .state .valid .next }) 0 less (omega arith),
+        one-more (d .sent) (output 1 r (d .state .progress .valid .next .0) sheet),
+        tells n (d .state .roll) (d .state .log) sized r (record { prevotes = h .prevotes; precommits = h .precommits; proposal = 2; valid = d .state .progress .valid .next .0 }) 0 less (omega arith),
       ),
     ))
     (λ t.
-    let b = runs-left (d .state .phase) n (ask-propose e .state .stand) run in
+    let b = runs-left (d .state .progress .phase) n (ask Propose e .state .progress .stand) run in
     (record { there = less; sized = sized }, omega (arith, one-more (d .sent) (output 4 r 0 0))))
 
 goes-pays : (d : Desk) → Roomy d → Runs d → (offer r : ℕ) → current d < r → r < d .rounds → Pays 26 d (start-round offer r d)
 unfolding bytes-left phase-left stand-left
 goes-pays d ok run offer r more less =
     let e = entered-weighs d (ok .sized) run offer r less in
-    let a = runs-left (d .state .phase) (d .rounds) (d .state .stand) run in
+    let a = runs-left (d .state .progress .phase) (d .rounds) (d .state .progress .stand) run in
     record { still = e .0; pays = omega (arith, e .1) }
 
 -- so each deed pays for its outputs
@@ -219,7 +209,7 @@ module _ (d : Desk) (i : Input) (ok : Roomy d) (p : Passes d i) where
   message-pays m h place fewer =
       let r = i .round .0 in
       record {
-        still = record { there = ok .there; sized = sized-tell (d .rounds) (d .state .log) r h (ok .sized) };
+        still = record { there = ok .there; sized = sized-tell (d .state .log) r h (ok .sized) };
         pays = omega (arith, tells (d .rounds) (d .state .roll) (d .state .log) (ok .sized) r h 1 (m .round) fewer);
       }
 
@@ -235,21 +225,20 @@ module _ (d : Desk) (i : Input) (ok : Roomy d) (p : Passes d i) where
       goes-pays d ok run (i .offer) (suc (i .round .0)) (omega (arith, timer-current d i p late)) (timer-next d i p seven))))
 
   taken-pays : (u : Desk) → u ≡ take-in i d → Taken d i u → Pays 26 d u
-  unfolding hear-proposal hear-prevote hear-precommit messages-left bytes-left phase-left
+  unfolding hear-proposal hear-vote messages-left bytes-left phase-left
   taken-pays u is (starts f k e) =
       let v = with-state (with-phase Running (d .state)) d in
       let w = entered-weighs v (ok .sized) refl (i .offer) 0 (omega (arith, ok .there)) in
-      let a = fresh-left (d .state .phase) (d .rounds) (d .state .stand) f in
+      let a = fresh-left (d .state .progress .phase) (d .rounds) (d .state .progress .stand) f in
       rw e (record { still = w .0; pays = omega (arith, w .1, ok .there) })
   taken-pays u is (hears-proposal m k t z v s e) =
       let one : unless (spoken (heard d (i .round .0))) ≡ 1 = rw s in
       rw e (message-pays m _ _ (by-cases (eqb (i .verdict) 1) (λ b. rw b (omega arith)) (λ b. rw b (omega arith))))
-  taken-pays u is (hears-prevote m k s e) =
+  taken-pays u is (hears-vote v m k s e) =
       let h = heard d (i .round .0) in
-      rw e (message-pays m _ _ (omega (arith, other-marked (d .state .roll .kiosks) (own d) (h .prevotes) (i .sender) (m .seat) (λ same. m .other (sym same)) s)))
-  taken-pays u is (hears-precommit m k s e) =
-      let h = heard d (i .round .0) in
-      rw e (message-pays m _ _ (omega (arith, other-marked (d .state .roll .kiosks) (own d) (h .precommits) (i .sender) (m .seat) (λ same. m .other (sym same)) s)))
+      rw e
+      (message-pays m _ _
+      (omega (arith, votes-left v (d .state .roll) h (mark (marks-of v h) (i .sender)) 1 (other-marked (d .state .roll .kiosks) (own d) (marks-of v h) (i .sender) (m .seat) (λ same. m .other (sym same)) s))))
   taken-pays u is (timer run late did) = rw is (timer-pays run late)
 
   -- and for its outputs
@@ -261,20 +250,20 @@ module _ (d : Desk) (i : Input) (ok : Roomy d) (p : Passes d i) where
 
 -- ## From creation on
 
-silent-left : (roll : Roll) → roll .own < roll .kiosks → messages-left roll silence + 1 ≡ 2 * roll .kiosks
+nothing-left : (roll : Roll) → roll .own < roll .kiosks → (r : ℕ) → messages-left roll (told empty-log r) + 1 ≡ 2 * roll .kiosks
 unfolding messages-left
-silent-left roll l = omega (arith, none-marked (roll .kiosks) (roll .own) l)
+nothing-left roll l r = rw (nothing-told r) (omega (arith, none-marked (roll .kiosks) (roll .own) l))
 
 -- where nothing is heard: start; for each round, however many there are, its messages, timers and outputs; and settling
-begun-left : (roll : Roll) (rounds : ℕ) (l : Log) (s : Stand) → roll .own < roll .kiosks → ((r : ℕ) → told l r ≡ silence)
-    → header-length (roll .kiosks) + (phase-left Fresh rounds s + 26 * all-messages-left rounds roll l) ≡ room-for (roll .kiosks) rounds
+begun-left : (roll : Roll) (rounds : ℕ) (l : List ℕ) (s : Stand) → ((r : ℕ) → messages-left roll (told l r) + 1 ≡ 2 * roll .kiosks)
+    → header-length roll + (phase-left Fresh rounds s + 26 * all-messages-left rounds roll l) ≡ room-for (roll .kiosks) rounds
 unfolding all-messages-left phase-left
-begun-left roll rounds l s own silent =
+begun-left roll rounds l s left =
     let n = roll .kiosks in
-    let c = messages-left roll silence in
+    let c = messages-left roll (told l 0) in
     let e : sum-below rounds (λ r. messages-left roll (told l r)) ≡ rounds * c
-    = sum-ext rounds (λ r. messages-left roll (told l r)) (λ r. c) (λ r less. ap (messages-left roll) (silent r)) ∙ sum-const rounds c in
-    let m : rounds * (c + 1) ≡ rounds * (2 * n) = ap (λ (x : ℕ). rounds * x) (silent-left roll own) in
+    = sum-ext rounds (λ r. messages-left roll (told l r)) (λ r. c) (λ r less. omega (arith, left r, left 0)) ∙ sum-const rounds c in
+    let m : rounds * (c + 1) ≡ rounds * (2 * n) = ap (λ (x : ℕ). rounds * x) (left 0) in
     omega arith
 
 -- In every state that opening, or accepted calls from there, give: the bytes used and those left are no more than the room for its rounds.
@@ -308,14 +297,14 @@ rooms-after p i t r =
     record { ok = rw e at (w .still); room = omega (arith, r .room, w .pays, same-left n u e) }
 
 rooms : {roll : Roll} {cs : List Call} {p : Past} → History roll cs p → Rooms roll p
-unfolding bytes-left told
+unfolding bytes-left
 rooms {roll} h =
     let own : roll .own < roll .kiosks = ltb-true (roll .own) (roll .kiosks) (h .created .own) in
     let n = rounds-of (before-start roll) in
     history-keeps (Rooms roll) rooms-after h
     (record {
-      ok = record { there = omega arith; sized = record { prevotes = refl; precommits = refl; proposals = refl; valids = refl } };
-      room = omega (arith, begun-left roll n quiet (entered 0) own (λ r. rw (zeros-at n r)));
+      ok = record { there = omega arith; sized = record { size = refl } };
+      room = omega (arith, begun-left roll n empty-log (entered 0) (nothing-left roll own));
     })
 
 -- the room, for as many rounds as there are

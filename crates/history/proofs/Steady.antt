@@ -12,7 +12,7 @@ use Rattle.rules.specs.declared.Input.{Input}
 use Rattle.rules.specs.Log.{desk}
 use Rattle.rules.proofs.Same.{work-roll}
 use Rattle.journal.specs.Layout.{header-length}
-use Rattle.answers.specs.declared.Answer.the-variants.{Impossible}
+use Rattle.refusals.specs.declared.Answer.the-variants.{Impossible}
 use Rattle.refusals.specs.Possible.{desk-fits}
 use Rattle.refusals.specs.Refusals.{refused-input}
 use Rattle.kiosk.specs.Judged.{used-fits, judged}
@@ -56,7 +56,7 @@ never-impossible {p = p} h area room i =
     let s = steady h in
     rw (
       s .possible,
-      le-leb (header-length (p .kiosk .state .roll .kiosks)) (p .kiosk .used) (s .after-header),
+      le-leb (header-length (p .kiosk .state .roll)) (p .kiosk .used) (s .after-header),
       le-leb (p .kiosk .used) area room,
       le-leb (p .kiosk .last) (p .kiosk .used) (s .last-in),
     )

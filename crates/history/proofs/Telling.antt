@@ -15,7 +15,7 @@ use Rattle.rules.specs.declared.Output.{Output}
 use Rattle.rules.specs.Log.{empty-table}
 use Rattle.journal.specs.Layout.{group-bytes, group-length}
 use Rattle.journal.proofs.Roundtrip.{length-group}
-use Rattle.answers.specs.declared.Answer.the-variants.{Damaged}
+use Rattle.refusals.specs.declared.Answer.the-variants.{Damaged}
 use Rattle.kiosk.specs.Opening.{Opened, Found, ended, unfinished, damaged, whole, opened, failed, find, replay}
 use Rattle.kiosk.proofs.Replays.{replay-stops, replay-damaged, replay-enough, replay-whole}
 use Rattle.history.specs.Histories.{Call, call-bytes, Past, does, after, takes, Wide, Told, told-none, told-more, beginning, History, Tail, none, Bad, Bytes}

@@ -1,19 +1,19 @@
 -- How many bytes a journal can still take: the count behind "In an area of 1,811 + 834n bytes .. never refused for room". 01, "Journal".
 -- Assumes nothing.
 use Prim.Native.Nat.{ℕ, zero, suc, _+_, _*_, _-_}
+use mathlib.Core.List.{List}
 use mathlib.Core.Bool.{_||_}
 use lib.Dec.{eqb}
 use Rattle.words.specs.Choice.{if_then_else_}
 use Rattle.words.specs.Marks.{marked}
 use Rattle.roll.specs.declared.Roll.{Roll}
 use Rattle.rules.specs.declared.Heard.{Heard}
-use Rattle.rules.specs.declared.Log.{Log}
 use Rattle.rules.specs.declared.Phase.{Phase}
 use Rattle.rules.specs.declared.Phase.the-variants.{Fresh, Running, Settled}
 use Rattle.rules.specs.declared.Stand.{Stand}
 use Rattle.rules.specs.State.{spoken}
 use Rattle.rules.specs.Log.{Desk, told}
-use Rattle.rules.specs.Room.{steps-left, unless}
+use Rattle.rules.specs.contracts.Room.{steps-left, unless}
 
 unfoldable pub sum-below : ℕ → (ℕ → ℕ) → ℕ
 sum-below zero f = 0
@@ -27,7 +27,7 @@ unmarked n own marks = sum-below n (λ i. if marked marks i || eqb own i then 0 
 unfoldable pub messages-left : Roll → Heard → ℕ
 messages-left roll h = unmarked (roll .kiosks) (roll .own) (h .prevotes) + unmarked (roll .kiosks) (roll .own) (h .precommits) + unless (spoken h)
 
-unfoldable pub all-messages-left : ℕ → Roll → Log → ℕ
+unfoldable pub all-messages-left : ℕ → Roll → List ℕ → ℕ
 all-messages-left rounds roll l = sum-below rounds (λ r. messages-left roll (told l r))
 
 -- Bytes that the timers and the outputs can still take. A round ahead: three timers of 26 and five outputs of 12. The current round: a
@@ -44,7 +44,7 @@ phase-left (Settled r) rounds s = 0
 
 -- all of it: a message takes 26, and its outputs are counted above
 unfoldable pub bytes-left : Desk → ℕ
-bytes-left d = phase-left (d .state .phase) (d .rounds) (d .state .stand) + 26 * all-messages-left (d .rounds) (d .state .roll) (d .state .log)
+bytes-left d = phase-left (d .state .progress .phase) (d .rounds) (d .state .progress .stand) + 26 * all-messages-left (d .rounds) (d .state .roll) (d .state .log)
 
 -- What a journal of n kiosks can take in all, for any number of rounds: the header, settling, and for each round 26 * (2n - 1) bytes of
 -- messages from others and 138 of timers (or start) and outputs

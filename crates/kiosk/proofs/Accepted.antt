@@ -14,19 +14,19 @@ use Rattle.roll.specs.Weighing.{roll-fits, own-fits, proposer}
 use Rattle.roll.proofs.Weighing.{fits-count}
 use Rattle.rules.specs.declared.Input.{Input}
 use Rattle.rules.specs.declared.Rule.the-variants.{Nothing}
-use Rattle.rules.specs.State.{is-fresh, is-settled, settled-round, most-rounds, silent}
+use Rattle.rules.specs.State.{is-fresh, is-settled, settled-round, most-rounds, unheard}
 use Rattle.rules.specs.Log.{Desk, desk, table-length, heard}
 use Rattle.rules.specs.Doing.{current, own}
 use Rattle.rules.specs.Rules.{first-rule, is-rule}
-use Rattle.rules.specs.Ready.{Ready, Readable}
+use Rattle.rules.specs.contracts.Ready.{Ready, Readable}
 use Rattle.rules.proofs.ByRule.{not-a-rule}
 use Rattle.journal.specs.Layout.{header-length}
 use Rattle.kiosk.specs.declared.Kiosk.{Kiosk}
-use Rattle.answers.specs.declared.Answer.{Answer}
-use Rattle.answers.specs.declared.Answer.the-variants.{Accepted, Impossible, AlreadySettled, OutOfOrder, OtherHeight, BadField, OwnNumber, NotProposer, HeardSame, HeardOther, TimerNotDue, LastRound, NoRoom, HeaderShort, Damaged, BadRoll}
-use Rattle.answers.specs.Answers.{is-accepted}
+use Rattle.refusals.specs.declared.Answer.{Answer}
+use Rattle.refusals.specs.declared.Answer.the-variants.{Accepted, Impossible, AlreadySettled, OutOfOrder, OtherHeight, BadField, OwnNumber, NotProposer, HeardSame, HeardOther, TimerNotDue, LastRound, NoRoom, HeaderShort, Damaged, BadRoll}
+use Rattle.refusals.specs.Answers.{is-accepted}
 use Rattle.refusals.specs.Possible.{held-fits, round-fits, fresh-fits, at-rest, desk-fits}
-use Rattle.refusals.specs.Refusals.{is-start, is-proposal, is-vote, is-timer, kind-fits, fields-fit, place-heard, same-heard, timer-due, refused-message, refused-input}
+use Rattle.refusals.specs.Refusals.{is-start, is-proposal, is-vote, is-timer, kind-fits, fields-fit, place-heard, same-heard, timer-due, refused-from-6, refused-input}
 use Rattle.kiosk.specs.Judged.{used-fits, judged}
 
 -- only Accepted is number 0
@@ -62,10 +62,10 @@ pub record Fits (d : Desk) : Type 0 where
   pub own-on-roll : own d < d .state .roll .kiosks
   pub places : length (d .table) ≡ table-length
   pub round : current d < d .rounds
-  pub settled : settled-round (d .state .phase) < d .rounds
+  pub settled : settled-round (d .state .progress .phase) < d .rounds
   pub rounds-fit : all-below (d .rounds) (λ r. round-fits d r) ≡ true
-  pub locked : held-fits (current d) (d .state .locked) ≡ true
-  pub valid : held-fits (current d) (d .state .valid) ≡ true
+  pub locked : held-fits (current d) (d .state .progress .locked) ≡ true
+  pub valid : held-fits (current d) (d .state .progress .valid) ≡ true
   pub rest : at-rest d ≡ true
 
 pub fits : (d : Desk) → desk-fits d ≡ true → Fits d
@@ -76,10 +76,10 @@ fits d e =
     let b = own-fits roll in
     let c = eqb (length (d .table)) table-length in
     let f = ltb (current d) (d .rounds) in
-    let g = ltb (settled-round (d .state .phase)) (d .rounds) in
+    let g = ltb (settled-round (d .state .progress .phase)) (d .rounds) in
     let h = all-below (d .rounds) (λ r. round-fits d r) in
-    let i = held-fits (current d) (d .state .locked) in
-    let j = held-fits (current d) (d .state .valid) in
+    let i = held-fits (current d) (d .state .progress .locked) in
+    let j = held-fits (current d) (d .state .progress .valid) in
     let e8 = and-left (a && b && c && f && g && h && i && j) (at-rest d) e in
     let e7 = and-left (a && b && c && f && g && h && i) j e8 in
     let e6 = and-left (a && b && c && f && g && h) i e7 in
@@ -96,7 +96,7 @@ fits d e =
       own-on-roll = ltb-true (own d) (roll .kiosks) (and-right a b e2);
       places = eqb-true (length (d .table)) table-length (and-right (a && b) c e3);
       round = ltb-true (current d) (d .rounds) (and-right (a && b && c) f e4);
-      settled = ltb-true (settled-round (d .state .phase)) (d .rounds) (and-right (a && b && c && f) g e5);
+      settled = ltb-true (settled-round (d .state .progress .phase)) (d .rounds) (and-right (a && b && c && f) g e5);
       rounds-fit = and-right (a && b && c && f && g) h e6;
       locked = and-right (a && b && c && f && g && h) i e7;
       valid = and-right (a && b && c && f && g && h && i) j e8;
@@ -105,28 +105,28 @@ fits d e =
 
 -- of a kiosk that has not started: nothing is heard, and no sheet is held
 pub record Unstarted (d : Desk) : Type 0 where
-  pub unheard : all-below (d .rounds) (λ r. silent (heard d r)) ≡ true
-  pub locked : d .state .locked .next ≡ 0
-  pub valid : d .state .valid .next ≡ 0
+  pub unheard : all-below (d .rounds) (λ r. unheard (heard d r)) ≡ true
+  pub locked : d .state .progress .locked .next .0 ≡ 0
+  pub valid : d .state .progress .valid .next .0 ≡ 0
 
-pub unstarted : (d : Desk) → at-rest d ≡ true → is-fresh (d .state .phase) ≡ true → Unstarted d
+pub unstarted : (d : Desk) → at-rest d ≡ true → is-fresh (d .state .progress .phase) ≡ true → Unstarted d
 unfolding at-rest fresh-fits
 unstarted d rest fresh =
-    let a = all-below (d .rounds) (λ r. silent (heard d r)) in
+    let a = all-below (d .rounds) (λ r. unheard (heard d r)) in
     let b = all-zero (d .table) in
     let c = eqb (current d) 0 in
-    let l = eqb (d .state .locked .next) 0 in
-    let v = eqb (d .state .valid .next) 0 in
+    let l = eqb (d .state .progress .locked .next .0) 0 in
+    let v = eqb (d .state .progress .valid .next .0) 0 in
     let e4 : (a && b && c && l && v) ≡ true = rw fresh at rest in
     let e3 = and-left (a && b && c && l) v e4 in
     record {
       unheard = and-left a b (and-left (a && b) c (and-left (a && b && c) l e3));
-      locked = eqb-true (d .state .locked .next) 0 (and-right (a && b && c) l e3);
-      valid = eqb-true (d .state .valid .next) 0 (and-right (a && b && c && l) v e4);
+      locked = eqb-true (d .state .progress .locked .next .0) 0 (and-right (a && b && c) l e3);
+      valid = eqb-true (d .state .progress .valid .next .0) 0 (and-right (a && b && c && l) v e4);
     }
 
 -- "started, not settled and some rule already applies" is not so of it: no rule applies, once started
-pub rests : (d : Desk) → at-rest d ≡ true → is-fresh (d .state .phase) ≡ false → first-rule d ≡ Nothing
+pub rests : (d : Desk) → at-rest d ≡ true → is-fresh (d .state .progress .phase) ≡ false → first-rule d ≡ Nothing
 unfolding at-rest
 rests d rest old =
     let f : not (is-rule (first-rule d)) ≡ true = rw old at rest in
@@ -135,8 +135,8 @@ rests d rest old =
 -- ## What an accepted input has passed
 
 pub record Passes (d : Desk) (i : Input) : Type 0 where
-  pub unsettled : is-settled (d .state .phase) ≡ false
-  pub in-order : (if is-fresh (d .state .phase) then not (is-start i) else is-start i) ≡ false
+  pub unsettled : is-settled (d .state .progress .phase) ≡ false
+  pub in-order : (if is-fresh (d .state .progress .phase) then not (is-start i) else is-start i) ≡ false
   pub height : eqb (i .height .0) (d .state .roll .height .0) ≡ true
   pub fields : fields-fit (d .state .roll .kiosks) (d .rounds) i ≡ true
   pub not-own : ((is-proposal i || is-vote i) && eqb (i .sender) (own d)) ≡ false
@@ -146,10 +146,10 @@ pub record Passes (d : Desk) (i : Input) : Type 0 where
   pub next-round : (eqb (i .kind) 7 && eqb (suc (i .round .0)) (d .rounds)) ≡ false
 
 pub passes : (d : Desk) (i : Input) → is-accepted (refused-input d i) ≡ true → Passes d i
-unfolding refused-input refused-message
+unfolding refused-input refused-from-6
 passes d i e =
-    let a = past (is-settled (d .state .phase)) _ _ refl e in
-    let b = past (if is-fresh (d .state .phase) then not (is-start i) else is-start i) _ _ refl (a .1) in
+    let a = past (is-settled (d .state .progress .phase)) _ _ refl e in
+    let b = past (if is-fresh (d .state .progress .phase) then not (is-start i) else is-start i) _ _ refl (a .1) in
     let c = past (not (eqb (i .height .0) (d .state .roll .height .0))) _ _ refl (b .1) in
     let f = past (not (fields-fit (d .state .roll .kiosks) (d .rounds) i)) _ _ refl (c .1) in
     let g = past ((is-proposal i || is-vote i) && eqb (i .sender) (own d)) _ _ refl (f .1) in
@@ -172,7 +172,7 @@ passes d i e =
 
 -- and what has passed them all is accepted
 pub welcome : (d : Desk) (i : Input) → Passes d i → is-accepted (refused-input d i) ≡ true
-unfolding refused-input refused-message
+unfolding refused-input refused-from-6
 welcome d i p = rw (p .unsettled, p .in-order, p .height, p .fields, p .not-own, p .turn, p .unheard, p .due, p .next-round)
 
 pub record Fields (n rounds : ℕ) (i : Input) : Type 0 where
@@ -236,15 +236,15 @@ module _ (area : ℕ) (k : Kiosk) (t : List ℕ) (i : Input) (e : is-accepted (j
     places = accepted-fits .places;
   }
 
-  pub accepted-used : (k .used ≤ area) × (header-length (k .state .roll .kiosks) ≤ k .used) × (k .last ≤ k .used)
+  pub accepted-used : (k .used ≤ area) × (header-length (k .state .roll) ≤ k .used) × (k .last ≤ k .used)
   unfolding used-fits
   accepted-used =
-      let a = leb (header-length (k .state .roll .kiosks)) (k .used) in
+      let a = leb (header-length (k .state .roll)) (k .used) in
       let b = leb (k .used) area in
       let c = leb (k .last) (k .used) in
       let u = and-right (desk-fits (desk (k .state) t)) (a && b && c) both in
       let ab = and-left (a && b) c u in
-      (leb-true (k .used) area (and-right a b ab), leb-true (header-length (k .state .roll .kiosks)) (k .used) (and-left a b ab), leb-true (k .last) (k .used) (and-right (a && b) c u))
+      (leb-true (k .used) area (and-right a b ab), leb-true (header-length (k .state .roll)) (k .used) (and-left a b ab), leb-true (k .last) (k .used) (and-right (a && b) c u))
 
   pub accepted-readable : Readable i
   accepted-readable = record {

@@ -10,12 +10,15 @@ use Rattle.words.specs.Choice.{if_then_else_}
 use Rattle.words.specs.Marks.{marked}
 use Rattle.words.proofs.Choice.{by-test, and-left, and-right}
 use Rattle.roll.specs.Weighing.{proposer}
+use Rattle.rules.specs.declared.Votes.{Votes}
+use Rattle.rules.specs.declared.Votes.the-variants.{Prevotes, Precommits}
 use Rattle.rules.specs.declared.Input.{Input}
 use Rattle.rules.specs.declared.Phase.{Phase}
 use Rattle.rules.specs.declared.Phase.the-variants.{Fresh, Running, Settled}
-use Rattle.rules.specs.State.{is-fresh, is-running, is-settled, is-propose, is-prevote, spoken, with-phase}
-use Rattle.rules.specs.Log.{Desk, with-state, heard, hear-proposal, hear-prevote, hear-precommit}
-use Rattle.rules.specs.Doing.{current, step, own, prevote, start-round}
+use Rattle.rules.specs.Kinds.{vote-in}
+use Rattle.rules.specs.State.{is-fresh, is-running, is-settled, is-propose, is-prevote, marks-of, spoken, with-phase}
+use Rattle.rules.specs.Log.{Desk, with-state, heard, hear-proposal, hear-vote}
+use Rattle.rules.specs.Doing.{current, step, own, start-round}
 use Rattle.rules.specs.Work.{take-in, most-firings, worked}
 use Rattle.rules.proofs.ByRule.{Runs}
 use Rattle.rules.proofs.Deeds.{nil, Deed, prevotes, precommits-nil, enters, firing-keeps}
@@ -32,7 +35,7 @@ pub record Message (d : Desk) (i : Input) : Type 0 where
 pub data Taken (d : Desk) (i : Input) (u : Desk) : Type 0 where
   -- line 10
   starts :
-      is-fresh (d .state .phase) ≡ true →
+      is-fresh (d .state .progress .phase) ≡ true →
       i .kind ≡ 1 →
       u ≡ start-round (i .offer) 0 (with-state (with-phase Running (d .state)) d) →
       Taken d i u
@@ -41,21 +44,16 @@ pub data Taken (d : Desk) (i : Input) (u : Desk) : Type 0 where
       i .kind ≡ 2 →
       i .sender ≡ proposer (d .state .roll) (i .round .0) →
       (i .name ≡ 0 → ⊥) →
-      i .valid ≤ i .round .0 →
+      i .valid .0 ≤ i .round .0 →
       spoken (heard d (i .round .0)) ≡ false →
-      u ≡ hear-proposal d (i .round .0) (eqb (i .verdict) 1) (i .valid) (i .name) →
+      u ≡ hear-proposal d (i .round .0) (eqb (i .verdict) 1) (i .valid .0) (i .name) →
       Taken d i u
-  hears-prevote :
+  hears-vote :
+      (v : Votes) →
       Message d i →
-      i .kind ≡ 3 →
-      marked (heard d (i .round .0) .prevotes) (i .sender) ≡ false →
-      u ≡ hear-prevote d (i .round .0) (i .sender) (i .name) →
-      Taken d i u
-  hears-precommit :
-      Message d i →
-      i .kind ≡ 4 →
-      marked (heard d (i .round .0) .precommits) (i .sender) ≡ false →
-      u ≡ hear-precommit d (i .round .0) (i .sender) (i .name) →
+      i .kind ≡ vote-in v →
+      marked (marks-of v (heard d (i .round .0))) (i .sender) ≡ false →
+      u ≡ hear-vote v d (i .round .0) (i .sender) (i .name) →
       Taken d i u
   -- "A timer input does lines 57 to 67"
   timer : Runs d → 5 ≤ i .kind → Deed (i .offer) d u → Taken d i u
@@ -76,11 +74,11 @@ module _ (d : Desk) (i : Input) (p : Passes d i) where
   fields : Fields (d .state .roll .kiosks) (d .rounds) i
   fields = fields-of (d .state .roll .kiosks) (d .rounds) i (p .fields)
 
-  start-is : is-start i ≡ is-fresh (d .state .phase)
-  start-is = starts-fresh (is-fresh (d .state .phase)) (is-start i) (p .in-order)
+  start-is : is-start i ≡ is-fresh (d .state .progress .phase)
+  start-is = starts-fresh (is-fresh (d .state .progress .phase)) (is-start i) (p .in-order)
 
   runs : is-start i ≡ false → Runs d
-  runs e = running (d .state .phase) (sym start-is ∙ e) (p .unsettled)
+  runs e = running (d .state .progress .phase) (sym start-is ∙ e) (p .unsettled)
 
   message : is-start i ≡ false → (is-proposal i || is-vote i) ≡ true → Message d i
   message e m = record {
@@ -90,14 +88,14 @@ module _ (d : Desk) (i : Input) (p : Passes d i) where
     round = fields .round;
   }
 
-  proposal-fields : is-proposal i ≡ true → (i .name ≡ 0 → ⊥) × (i .valid ≤ i .round .0)
+  proposal-fields : is-proposal i ≡ true → (i .name ≡ 0 → ⊥) × (i .valid .0 ≤ i .round .0)
   unfolding kind-fits proposal-fits
   proposal-fields e =
       let a = not (eqb (i .name) 0) in
-      let b = leb (i .valid) (i .round .0) in
+      let b = leb (i .valid .0) (i .round .0) in
       let k : (a && b && leb (i .verdict) 1) ≡ true = rw e at (fields .of-kind) in
       let ab = and-left (a && b) (leb (i .verdict) 1) k in
-      (eqb-false (i .name) 0 (not-true (eqb (i .name) 0) (and-left a b ab)), leb-true (i .valid) (i .round .0) (and-right a b ab))
+      (eqb-false (i .name) 0 (not-true (eqb (i .name) 0) (and-left a b ab)), leb-true (i .valid .0) (i .round .0) (and-right a b ab))
 
   turn : is-proposal i ≡ true → i .sender ≡ proposer (d .state .roll) (i .round .0)
   turn e =
@@ -108,13 +106,10 @@ module _ (d : Desk) (i : Input) (p : Passes d i) where
   unfolding place-heard
   unheard-proposal e = rw e at (p .unheard)
 
-  unheard-prevote : is-proposal i ≡ false → eqb (i .kind) 3 ≡ true → marked (heard d (i .round .0) .prevotes) (i .sender) ≡ false
+  unheard-vote : (v : Votes) → i .kind ≡ vote-in v → marked (marks-of v (heard d (i .round .0))) (i .sender) ≡ false
   unfolding place-heard
-  unheard-prevote n e = rw (n, e) at (p .unheard)
-
-  unheard-precommit : is-proposal i ≡ false → eqb (i .kind) 3 ≡ false → eqb (i .kind) 4 ≡ true → marked (heard d (i .round .0) .precommits) (i .sender) ≡ false
-  unfolding place-heard
-  unheard-precommit n m e = rw (n, m, e) at (p .unheard)
+  unheard-vote Prevotes e = rw e at (p .unheard)
+  unheard-vote Precommits e = rw e at (p .unheard)
 
   -- a timer that is accepted is due
   due : 5 ≤ i .kind → timer-due d i ≡ true
@@ -128,13 +123,13 @@ module _ (d : Desk) (i : Input) (p : Passes d i) where
   unfolding timer-due
   timer-propose e =
       let t = and-right (eqb (i .round .0) (current d)) _ (due (omega (arith, eqb-true (i .kind) 5 e))) in
-      and-left (is-propose (step d)) (d .state .stand .asked .propose) (rw e at t)
+      and-left (is-propose (step d)) (d .state .progress .stand .asked .propose) (rw e at t)
 
   pub timer-prevote : eqb (i .kind) 5 ≡ false → eqb (i .kind) 6 ≡ true → is-prevote (step d) ≡ true
   unfolding timer-due
   timer-prevote n e =
       let t = and-right (eqb (i .round .0) (current d)) _ (due (omega (arith, eqb-true (i .kind) 6 e))) in
-      and-left (is-prevote (step d)) (d .state .stand .asked .prevote) (rw (n, e) at t)
+      and-left (is-prevote (step d)) (d .state .progress .stand .asked .prevote) (rw (n, e) at t)
 
   pub timer-next : 7 ≤ i .kind → suc (i .round .0) < d .rounds
   timer-next = next-there i fields (p .next-round)
@@ -145,8 +140,8 @@ module _ (d : Desk) (i : Input) (p : Passes d i) where
       let k = i .kind in
       by-test (Taken d i) (eqb k 1) (λ e. starts (sym start-is ∙ e) (eqb-true k 1 e) refl) (λ e1.
       by-test (Taken d i) (eqb k 2) (λ e. hears-proposal (message e1 (rw e)) (eqb-true k 2 e) (turn e) (proposal-fields e .0) (proposal-fields e .1) (unheard-proposal e) refl) (λ e2.
-      by-test (Taken d i) (eqb k 3) (λ e. hears-prevote (message e1 (rw (e2, e))) (eqb-true k 3 e) (unheard-prevote e2 e) refl) (λ e3.
-      by-test (Taken d i) (eqb k 4) (λ e. hears-precommit (message e1 (rw (e2, e3, e))) (eqb-true k 4 e) (unheard-precommit e2 e3 e) refl) (λ e4.
+      by-test (Taken d i) (eqb k 3) (λ e. hears-vote Prevotes (message e1 (rw (e2, e))) (eqb-true k 3 e) (unheard-vote Prevotes (eqb-true k 3 e)) refl) (λ e3.
+      by-test (Taken d i) (eqb k 4) (λ e. hears-vote Precommits (message e1 (rw (e2, e3, e))) (eqb-true k 4 e) (unheard-vote Precommits (eqb-true k 4 e)) refl) (λ e4.
       by-test (Taken d i) (eqb k 5) (λ e. timer (runs e1) (omega (arith, eqb-true k 5 e)) (prevotes 0 (timer-propose e) (nil refl) refl)) (λ e5.
       by-test (Taken d i) (eqb k 6) (λ e. timer (runs e1) (omega (arith, eqb-true k 6 e)) (precommits-nil (timer-prevote e5 e) refl)) (λ e6.
       let not-one : (n : ℕ) → eqb k n ≡ false → k ≡ n → ⊥ = eqb-false k in

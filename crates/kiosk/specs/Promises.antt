@@ -2,19 +2,11 @@
 use Prim.Native.Nat.{ℕ}
 use mathlib.Core.Path.{_≡_}
 use mathlib.Core.List.{List, []}
-use Rattle.roll.specs.declared.Roll.{Roll}
-use Rattle.rules.specs.declared.Log.{Log}
-use Rattle.rules.specs.State.{state-of}
-use Rattle.rules.specs.Ready.{packed}
-use Rattle.kiosk.specs.declared.Done.{Done}
+use Rattle.rules.specs.Sent.{packed}
 use Rattle.kiosk.specs.declared.Reply.{Reply}
 use Rattle.kiosk.specs.declared.Made.{Made}
 use Rattle.kiosk.specs.Calls.{Called, Created}
 use Rattle.kiosk.specs.Opening.{Opened}
-
--- a reply where the log was lent: the roll, the log after the call, and what the call gives
-abbrev pub reply-of : Roll → Log → Done → Reply
-reply-of roll l d = record { answer = d .answer; sent = d .sent; kiosk = record { state = state-of roll (d .votes) l; used = d .used; last = d .last } }
 
 -- one call: the reply, and the table and the journal afterwards
 pub record Says (o : Called) (r : Reply) (table journal : List ℕ) : Type 0 where

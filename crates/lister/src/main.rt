@@ -1,4 +1,6 @@
 // The journal lister: a journal on standard input, its listing on standard output.
+use printing::MOST_BYTES;
+use printing::TEXT_ROOM;
 use printing::print_journal;
 
 // The first bytes of the text.
@@ -10,9 +12,9 @@ fn show(text: &[u8], size: usize) {
 
 fn main() {
     // One byte more than the longest journal that is listed: a longer input shows as too long.
-    let mut journal = [0u8; 28500];
+    let mut journal = [0u8; MOST_BYTES + 1];
     let n = io::read_full(0, &mut journal);
-    let mut text = [0u8; 114196];
+    let mut text = [0u8; TEXT_ROOM];
     let page = print_journal(&journal[..n], &mut text);
     show(&text, page.size);
 }

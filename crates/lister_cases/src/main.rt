@@ -1,4 +1,6 @@
 // Each file of data/ is a journal: its name, and then its listing.
+use printing::MOST_BYTES;
+use printing::TEXT_ROOM;
 use printing::print_journal;
 
 // The first bytes of the text.
@@ -16,10 +18,10 @@ fn list(path: &[u8]) {
         io::write_all(1, b"no such file\n");
         return;
     }
-    let mut journal = [0u8; 28500];
+    let mut journal = [0u8; MOST_BYTES + 1];
     let n = io::read_full(fd, &mut journal);
     libc::close(fd);
-    let mut text = [0u8; 114196];
+    let mut text = [0u8; TEXT_ROOM];
     let page = print_journal(&journal[..n], &mut text);
     show(&text, page.size);
 }

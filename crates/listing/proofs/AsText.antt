@@ -14,7 +14,7 @@ use Rattle.rules.specs.Work.{the-work}
 use Rattle.journal.specs.Layout.{the-layout}
 use Rattle.journal.specs.Readback.{the-readback}
 use Rattle.journal.proofs.Journals.{journal-107, height}
-use Rattle.answers.specs.declared.Answer.the-variants.{Accepted, NoRoom}
+use Rattle.refusals.specs.declared.Answer.the-variants.{Accepted, NoRoom}
 use Rattle.refusals.specs.Possible.{the-possible}
 use Rattle.refusals.specs.Refusals.{the-refusals}
 use Rattle.kiosk.specs.Judged.{the-judged}

@@ -8,7 +8,7 @@ use lib.ListN.{length}
 use Rattle.words.specs.Members.{In}
 use Rattle.roll.specs.Weighing.{power-of, total-of, roll-fits}
 use Rattle.rules.specs.declared.Input.{Input}
-use Rattle.answers.specs.Answers.{is-accepted}
+use Rattle.refusals.specs.Answers.{is-accepted}
 use Rattle.kiosk.specs.Calls.{put}
 use Rattle.history.specs.Histories.{Call, Past, does, after, takes, History, sent-in}
 use Rattle.history.proofs.Puts.{put-accepts, put-gives}

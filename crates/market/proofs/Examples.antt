@@ -25,7 +25,7 @@ use Rattle.market.proofs.Schedule.{memory-after, cut-file, kiosk-after,
 
 abbrev pub input : ℕ → ℕ → ℕ → ℕ → ℕ → Input
 input kind sender verdict name offer =
-    record { kind = kind; height = record { 0 = 2 }; sender = sender; round = record { 0 = 0 }; valid = 0; verdict = verdict; name = name; offer = offer }
+    record { kind = kind; height = record { 0 = 2 }; sender = sender; round = record { 0 = 0 }; valid = record { 0 = 0 }; verdict = verdict; name = name; offer = offer }
 
 -- start with an offer; a proposal with verdict 1; the votes
 abbrev pub starts : ℕ → Input

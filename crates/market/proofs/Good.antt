@@ -13,17 +13,19 @@ use Rattle.words.specs.Marks.{marked}
 use Rattle.words.proofs.Choice.{and-left, and-right}
 use Rattle.words.proofs.Members.{In-left, In-right}
 use Rattle.roll.specs.declared.Roll.{Roll}
+use Rattle.rules.specs.declared.Votes.{Votes}
 use Rattle.rules.specs.declared.Output.{Output}
-use Rattle.rules.specs.State.{most-rounds}
-use Rattle.rules.specs.Log.{Desk, table-length, hear-proposal}
+use Rattle.rules.specs.State.{most-rounds, marks-of}
+use Rattle.rules.specs.Log.{Desk, table-length, heard, voted, hear-proposal, hear-vote, power-for}
 use Rattle.rules.specs.Doing.{current}
 use Rattle.rules.specs.Rules.{is-large}
+use Rattle.rules.proofs.Hearing.{vote-heard, proposal-votes}
 use Rattle.agreement.specs.Weigh.{scale-of}
 use Rattle.agreement.specs.Moves.{Out, View, Move, Kept}
 use Rattle.agreement.specs.Honest.{Kind, pv, pc, said, Arrived, From, Heard}
 use Rattle.agreement.proofs.Lock.{kept}
 use Rattle.market.specs.Seat.{act, acts, view}
-use Rattle.market.proofs.Votes.{marks, name-of, hear, power-for, large-for, log-same, Beside, beside-vote, beside-proposal, proposal-votes, vote-heard}
+use Rattle.market.proofs.Votes.{kind-of, large-for, log-same, vote-there, Beside, beside-vote, beside-proposal}
 
 -- ## Outputs
 
@@ -73,7 +75,7 @@ module _ (roll : Roll) (A : Arrived) where
     pub rounds-are : d .rounds ≡ most-rounds
     pub round : current d < most-rounds
     pub places : length (d .table) ≡ table-length
-    pub votes : (k : Kind) (r j : ℕ) → j < roll .kiosks → marked (marks k d r) j ≡ true → Said os k r (name-of k d r j) j
+    pub votes : (v : Votes) (r j : ℕ) → j < roll .kiosks → marked (marks-of v (heard d r)) j ≡ true → Said os (kind-of v) r (voted v d r j) j
 
   pub record Good (os : List Out) (d : Desk) : Type 0 where
     pub logs : Logs os d
@@ -92,7 +94,7 @@ module _ (roll : Roll) (A : Arrived) where
     rounds-are = l .rounds-are;
     round = l .round;
     places = l .places;
-    votes = λ k r j hj t. from-more os o k r _ j (l .votes k r j hj t);
+    votes = λ v r j hj t. from-more os o (kind-of v) r _ j (l .votes v r j hj t);
   }
 
   -- another stand, lock or phase, and outputs
@@ -103,7 +105,7 @@ module _ (roll : Roll) (A : Arrived) where
     rounds-are = er ∙ l .rounds-are;
     round = hc;
     places = rw et (l .places);
-    votes = λ k r j hj. let e = log-same d u el et k r j in rw (e .0, e .1) (l .votes k r j hj);
+    votes = λ v r j hj. let e = log-same d u el et v r j in rw (e .0, e .1) (l .votes v r j hj);
   }
 
   -- a move, and a log that grew by what was said or arrived
@@ -120,7 +122,7 @@ module _ (roll : Roll) (A : Arrived) where
   module _ (few : roll .kiosks ≤ 32) (os : List Out) (d : Desk) (l : Logs os d) where
     -- ## Messages heard
 
-    heard-logs : (u : Desk) → Beside d u → ((k : Kind) (r j : ℕ) → j < roll .kiosks → marked (marks k u r) j ≡ true → Said os k r (name-of k u r j) j) → Logs os u
+    heard-logs : (u : Desk) → Beside d u → ((v : Votes) (r j : ℕ) → j < roll .kiosks → marked (marks-of v (heard u r)) j ≡ true → Said os (kind-of v) r (voted v u r j) j) → Logs os u
     heard-logs u b votes = record {
       roll-is = b .roll-same ∙ l .roll-is;
       rounds-are = b .rounds-same ∙ l .rounds-are;
@@ -129,26 +131,26 @@ module _ (roll : Roll) (A : Arrived) where
       votes = votes;
     }
 
-    pub vote-logs : (k : Kind) (r i name : ℕ) → r < most-rounds → i < 32 → Said os k r name i → Logs os (hear k d r i name)
-    vote-logs k r i name hr hi new = heard-logs (hear k d r i name) (beside-vote k d r i name) (λ k′ q j hj t.
+    pub vote-logs : (v : Votes) (r i name : ℕ) → r < most-rounds → i < 32 → Said os (kind-of v) r name i → Logs os (hear-vote v d r i name)
+    vote-logs v r i name hr hi new = heard-logs (hear-vote v d r i name) (beside-vote v d r i name) (λ w q j hj t.
         ⊎-elim
         (λ h. rw (h .3, h .1, h .2, ← (h .0)) new)
-        (λ h. rw (h .1) (l .votes k′ q j hj (h .0)))
-        (vote-heard k d r i name hi hr (l .places) k′ q j (omega (arith, few)) t))
+        (λ h. rw (h .1) (l .votes w q j hj (h .0)))
+        (vote-heard v d r i name hi (vote-there v d r i hi hr (l .places)) w q j (omega (arith, few)) t))
 
     pub proposal-logs : (r : ℕ) (good : Bool) (valid name : ℕ) → Logs os (hear-proposal d r good valid name)
-    proposal-logs r good valid name = heard-logs (hear-proposal d r good valid name) (beside-proposal d r good valid name) (λ k q j hj t.
-        let e = proposal-votes d r good valid name k q j (omega (arith, few)) in
-        rw (e .1) (l .votes k q j hj (rw (e .0) at t)))
+    proposal-logs r good valid name = heard-logs (hear-proposal d r good valid name) (beside-proposal d r good valid name) (λ v q j hj t.
+        let e = proposal-votes d r good valid name v q j (omega (arith, few)) in
+        rw (e .1) (l .votes v q j hj (rw (e .0) at t)))
 
     -- ## A large set in the log is heard
 
-    pub votes-heard : (k : Kind) (r w : ℕ) → is-large d (power-for k d r w) ≡ true → Hears os k r w
-    votes-heard k r w t = record {
-      seats = λ j. marked (marks k d r) j && eqb (name-of k d r j) w;
-      large = sym (large-for k d r w (l .roll-is)) ∙ t;
+    pub votes-heard : (v : Votes) (r w : ℕ) → is-large d (power-for v d r w) ≡ true → Hears os (kind-of v) r w
+    votes-heard v r w t = record {
+      seats = λ j. marked (marks-of v (heard d r)) j && eqb (voted v d r j) w;
+      large = sym (large-for v d r w (l .roll-is)) ∙ t;
       from = λ j hj s.
-          let m = marked (marks k d r) j in
-          let n = eqb (name-of k d r j) w in
-          rw (eqb-true (name-of k d r j) w (and-right m n s)) at (l .votes k r j hj (and-left m n s));
+          let m = marked (marks-of v (heard d r)) j in
+          let n = eqb (voted v d r j) w in
+          rw (eqb-true (voted v d r j) w (and-right m n s)) at (l .votes v r j hj (and-left m n s));
     }

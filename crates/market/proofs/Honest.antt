@@ -6,7 +6,7 @@ use mathlib.Core.Logic.{inl, inr}
 use mathlib.Core.List.{List, [], _++_, append-nil}
 use mathlib.Core.Bool.{true, false≢true}
 use native.Mathlib.Omega.{arith}
-use lib.ListN.{getD, replicate, length-replicate}
+use lib.ListN.{length-replicate}
 use lib.Dec.{eqb}
 use borrow.Author.Tests.{ltb-true}
 use Rattle.words.specs.Marks.{marked}
@@ -15,54 +15,57 @@ use Rattle.words.proofs.MarkLaws.{marked-zero}
 use Rattle.words.proofs.Places.{zeros-at}
 use Rattle.roll.specs.declared.Roll.{Roll}
 use Rattle.roll.proofs.Weighing.{fits-count}
+use Rattle.rules.specs.declared.Votes.{Votes}
+use Rattle.rules.specs.declared.Votes.the-variants.{Prevotes, Precommits}
 use Rattle.rules.specs.declared.Input.{Input}
 use Rattle.rules.specs.declared.Phase.the-variants.{Running}
-use Rattle.rules.specs.State.{most-rounds, is-fresh, with-phase}
-use Rattle.rules.specs.Log.{Desk, desk, told, table-length, with-state, hear-proposal, hear-prevote, hear-precommit}
+use Rattle.rules.specs.Kinds.{vote-in}
+use Rattle.rules.specs.State.{most-rounds, log-length, marks-at, marks-of, empty-log, is-fresh, with-phase}
+use Rattle.rules.specs.Log.{Desk, desk, told, table-length, with-state, hear-proposal, hear-vote}
 use Rattle.rules.specs.Doing.{current, step}
 use Rattle.rules.specs.Work.{worked}
+use Rattle.rules.proofs.Telling.{marks-is}
 use Rattle.kiosk.proofs.Accepted.{Passes, accepted-fits, accepted-passes}
-use Rattle.kiosk.proofs.Taken.{Message, Taken, starts, hears-proposal, hears-prevote, hears-precommit, timer, call-keeps}
+use Rattle.kiosk.proofs.Taken.{Message, Taken, starts, hears-proposal, hears-vote, timer, call-keeps}
 use Rattle.kiosk.proofs.Kept.{worked-sound}
 use Rattle.history.specs.Histories.{Call, Past, does, after, takes, Told, told-none, told-more, beginning, History, sent-in}
 use Rattle.agreement.specs.Moves.{Out, quiet}
 use Rattle.agreement.specs.Weigh.{scale-of}
-use Rattle.agreement.specs.Honest.{Kind, pv, pc, said, Arrived, Honest}
+use Rattle.agreement.specs.Honest.{said, Arrived, Honest}
 use Rattle.market.specs.Seat.{acts, brings, step-number, view}
-use Rattle.market.proofs.Votes.{kind-of, marks, hear}
+use Rattle.market.proofs.Votes.{kind-of}
 use Rattle.market.proofs.Good.{acts-more, Good, logs-same, vote-logs, proposal-logs}
 use Rattle.market.proofs.Moving.{Next, start-next, deed-next}
 
 -- ## What an input does before the rules
 
 -- a vote that is put brings itself
-brought : (k : Kind) (i : Input) → i .kind ≡ kind-of k → brings i (i .sender) (said k (i .round .0) (i .name))
-brought pv i e = (rw e, refl, rw e)
-brought pc i e = (rw e, refl, rw e)
+brought : (v : Votes) (i : Input) → i .kind ≡ vote-in v → brings i (i .sender) (said (kind-of v) (i .round .0) (i .name))
+brought Prevotes i e = (rw e, refl, rw e)
+brought Precommits i e = (rw e, refl, rw e)
 
 -- before start a kiosk is at the beginning of round 0
 abbrev Begun : Desk → Type 0
-Begun d = is-fresh (d .state .phase) ≡ true → (current d ≡ 0) × (step-number (step d) ≡ 0)
+Begun d = is-fresh (d .state .progress .phase) ≡ true → (current d ≡ 0) × (step-number (step d) ≡ 0)
 
 module _ (roll : Roll) (A : Arrived) (few : roll .kiosks ≤ 32) (own-seat : roll .own < roll .kiosks) (before : List Out) where
   abbrev Goes : Desk → Type 0
   Goes d = Next roll A few own-seat before d
 
-  heard-vote : (k : Kind) (d : Desk) (r i name : ℕ) → Goes d → r < most-rounds → i < 32 → A i (said k r name) → Goes (hear k d r i name)
-  unfolding hear-prevote hear-precommit
-  heard-vote pv d r i name g hr hi a = record { logs = vote-logs roll A few (before ++ acts (d .sent)) d (g .logs) pv r i name hr hi (inr a); kept = g .kept }
-  heard-vote pc d r i name g hr hi a = record { logs = vote-logs roll A few (before ++ acts (d .sent)) d (g .logs) pc r i name hr hi (inr a); kept = g .kept }
+  heard-vote : (v : Votes) (d : Desk) (r i name : ℕ) → Goes d → r < most-rounds → i < 32 → A i (said (kind-of v) r name) → Goes (hear-vote v d r i name)
+  unfolding hear-vote
+  heard-vote v d r i name g hr hi a = record { logs = vote-logs roll A few (before ++ acts (d .sent)) d (g .logs) v r i name hr hi (inr a); kept = g .kept }
 
   module _ (d : Desk) (i : Input) (g : Goes d) (new : (j : ℕ) (o : Out) → brings i j o → A j o) where
-    heard-message : (k : Kind) → Message d i → i .kind ≡ kind-of k → Goes (hear k d (i .round .0) (i .sender) (i .name))
-    heard-message k m e =
+    heard-message : (v : Votes) → Message d i → i .kind ≡ vote-in v → Goes (hear-vote v d (i .round .0) (i .sender) (i .name))
+    heard-message v m e =
         let seat : i .sender < roll .kiosks = rw (g .logs .roll-is) at (m .seat) in
-        heard-vote k d (i .round .0) (i .sender) (i .name) g (omega (arith, m .round, g .logs .rounds-are)) (omega (arith, few, seat)) (new (i .sender) _ (brought k i e))
+        heard-vote v d (i .round .0) (i .sender) (i .name) g (omega (arith, m .round, g .logs .rounds-are)) (omega (arith, few, seat)) (new (i .sender) _ (brought v i e))
 
-    heard-proposal : Goes (hear-proposal d (i .round .0) (eqb (i .verdict) 1) (i .valid) (i .name))
+    heard-proposal : Goes (hear-proposal d (i .round .0) (eqb (i .verdict) 1) (i .valid .0) (i .name))
     unfolding hear-proposal
     heard-proposal =
-        record { logs = proposal-logs roll A few (before ++ acts (d .sent)) d (g .logs) (i .round .0) (eqb (i .verdict) 1) (i .valid) (i .name); kept = g .kept }
+        record { logs = proposal-logs roll A few (before ++ acts (d .sent)) d (g .logs) (i .round .0) (eqb (i .verdict) 1) (i .valid .0) (i .name); kept = g .kept }
 
     taken-next : (u : Desk) → Begun d → Taken d i u → Goes u
     taken-next u begun (starts fresh k e) =
@@ -74,8 +77,7 @@ module _ (roll : Roll) (A : Arrived) (few : roll .kiosks ≤ 32) (own-seat : rol
         (omega arith)
         (λ os o q. quiet q (sym (f .0)) (sym (f .1)) (record { lr = refl; lv = refl })))
     taken-next u begun (hears-proposal m k turn some low n e) = subst Goes (sym e) heard-proposal
-    taken-next u begun (hears-prevote m k n e) = subst Goes (sym e) (heard-message pv m k)
-    taken-next u begun (hears-precommit m k n e) = subst Goes (sym e) (heard-message pc m k)
+    taken-next u begun (hears-vote v m k n e) = subst Goes (sym e) (heard-message v m k)
     taken-next u begun (timer run late did) = deed-next roll A few own-seat before (i .offer) d u did g
 
     called : Passes d i → Begun d → Goes (worked i d)
@@ -111,8 +113,9 @@ history-told {roll} {cs} h P begins keeps =
 abbrev pub at : Past → Desk
 at p = desk (p .kiosk .state) (p .table)
 
-none-marked : (r j : ℕ) → marked (getD (replicate most-rounds 0) r 0) j ≡ true → ⊥
-none-marked r j t = false≢true (sym (ap (λ (m : ℕ). marked m j) (zeros-at most-rounds r) ∙ marked-zero j) ∙ t)
+-- nothing is marked at the beginning
+none-marked : (v : Votes) (r j : ℕ) → marked (marks-of v (told empty-log r)) j ≡ true → ⊥
+none-marked v r j t = false≢true (sym (ap (λ (m : ℕ). marked m j) (marks-is v empty-log r ∙ zeros-at log-length (marks-at v r)) ∙ marked-zero j) ∙ t)
 
 module _ (roll : Roll) (A : Arrived) where
   -- between calls
@@ -121,7 +124,6 @@ module _ (roll : Roll) (A : Arrived) where
     begun : Begun (at p)
 
   rest-begins : Rest [] (beginning roll)
-  unfolding told
   rest-begins = record {
     good = record {
       logs = record {
@@ -129,7 +131,7 @@ module _ (roll : Roll) (A : Arrived) where
         rounds-are = refl;
         round = omega arith;
         places = length-replicate {A = ℕ} table-length 0;
-        votes = λ k r j hj t. absurd (unmarked k r j t);
+        votes = λ v r j hj t. absurd (none-marked v r j t);
       };
       kept = record {
         step-ok = omega arith;
@@ -147,10 +149,6 @@ module _ (roll : Roll) (A : Arrived) where
     };
     begun = λ e. (refl, refl);
   }
-    where
-      unmarked : (k : Kind) (r j : ℕ) → marked (marks k (at (beginning roll)) r) j ≡ true → ⊥
-      unmarked pv r j t = none-marked r j t
-      unmarked pc r j t = none-marked r j t
 
   module _ (few : roll .kiosks ≤ 32) (own-seat : roll .own < roll .kiosks) where
     rest-after : (os : List Out) (p : Past) (i : Input) → takes p i ≡ true → ((j : ℕ) (o : Out) → brings i j o → A j o) → Rest os p → Rest (os ++ acts (does p i .sent)) (after p i)

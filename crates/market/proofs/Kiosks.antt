@@ -17,11 +17,11 @@ use Rattle.roll.specs.declared.Roll.{Roll}
 use Rattle.roll.specs.Weighing.{roll-fits, roll-with}
 use Rattle.rules.specs.declared.Input.{Input}
 use Rattle.rules.specs.Log.{table-length, empty-table}
-use Rattle.rules.specs.Ready.{packed}
+use Rattle.rules.specs.Sent.{packed}
 use Rattle.journal.specs.Layout.{header-bytes, group-bytes}
-use Rattle.answers.specs.declared.Answer.{Answer}
-use Rattle.answers.specs.declared.Answer.the-variants.{HeaderShort}
-use Rattle.answers.specs.Answers.{is-accepted}
+use Rattle.refusals.specs.declared.Answer.{Answer}
+use Rattle.refusals.specs.declared.Answer.the-variants.{HeaderShort}
+use Rattle.refusals.specs.Answers.{is-accepted}
 use Rattle.kiosk.specs.declared.Kiosk.{Kiosk}
 use Rattle.kiosk.specs.Calls.{create}
 use Rattle.kiosk.specs.Opening.{Opened, failed, open-journal}

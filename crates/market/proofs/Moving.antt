@@ -9,16 +9,19 @@ use lib.Dec.{eqb}
 use Rattle.words.proofs.Choice.{by-test, zero-one}
 use Rattle.roll.specs.declared.Roll.{Roll}
 use Rattle.roll.specs.Weighing.{proposer}
+use Rattle.rules.specs.declared.Step.the-variants.{Propose, Prevote, Precommit}
+use Rattle.rules.specs.declared.Votes.{Votes}
+use Rattle.rules.specs.declared.Votes.the-variants.{Prevotes, Precommits}
 use Rattle.rules.specs.declared.Output.{Output}
 use Rattle.rules.specs.State.{most-rounds, held, entered, with-stand, with-locked}
-use Rattle.rules.specs.Log.{Desk, with-state, hear-proposal, hear-prevote, hear-precommit}
-use Rattle.rules.specs.Doing.{current, step, own, output, sheet-to-propose, propose, prevote, precommit, ask-propose, ask-prevote, ask-precommit, start-round}
+use Rattle.rules.specs.Log.{Desk, with-state, message, hear-proposal, hear-vote, power-for}
+use Rattle.rules.specs.Doing.{current, step, own, step-of, output, sheet-to-propose, propose, vote, ask, start-round}
 use Rattle.rules.specs.Rules.{is-large, fire-49}
-use Rattle.rules.proofs.Deeds.{Prevotes, nil, afresh, again, Closes, holding, Deed, prevotes, precommits-nil, locks, holds, asks-prevote, asks-precommit, settles, enters}
+use Rattle.rules.proofs.Deeds.{Why-prevote, nil, afresh, again, Closes, holding, Deed, prevotes, precommits-nil, locks, holds, asks-prevote, asks-precommit, settles, enters}
 use Rattle.agreement.specs.Moves.{Out, settled, proposal, other, View, SameLock, Quiet, Move, quiet, enter, prevote-nil, prevote-new, prevote-old, precommit-nil, precommit-sheet, settle}
-use Rattle.agreement.specs.Honest.{Kind, pv, pc, said, Arrived}
+use Rattle.agreement.specs.Honest.{pv, pc, said, Arrived}
 use Rattle.market.specs.Seat.{act, acts, step-number, view}
-use Rattle.market.proofs.Votes.{hear, power-for}
+use Rattle.market.proofs.Votes.{kind-of}
 use Rattle.market.proofs.Steps.{at-propose, at-prevote}
 use Rattle.market.proofs.Good.{acts-more, Hears, Logs, Good, heard-more, logs-more, logs-same, advance, own-vote, vote-logs, proposal-logs, votes-heard}
 
@@ -61,40 +64,38 @@ module _ (roll : Roll) (A : Arrived) (few : roll .kiosks ≤ 32) (own-seat : rol
   told-next d u o g es l m = out-next d u o g es (logs-more roll A (all-out d) (act o ∷ []) u l) m
 
   -- a vote, from where it is said: c has the log of d
-  vote-next : (k : Kind) (name : ℕ) (d c u : Desk) (o : Output) → Next d → Logs roll A (all-out d) c → act o ≡ said k (current c) name
+  said-next : (v : Votes) (name : ℕ) (d c u : Desk) (o : Output) → Next d → Logs roll A (all-out d) c → act o ≡ said (kind-of v) (current c) name
       → u .sent ≡ d .sent ++ (o ∷ []) → u .rounds ≡ c .rounds → u .state .roll ≡ c .state .roll → current u ≡ current c
-      → u .state .log ≡ hear k c (current c) (own c) name .state .log → u .table ≡ hear k c (current c) (own c) name .table
+      → u .state .log ≡ hear-vote v c (current c) (own c) name .state .log → u .table ≡ hear-vote v c (current c) (own c) name .table
       → Moves (all-out d ++ (act o ∷ [])) (view d) (act o ∷ []) (view u) → Next u
-  vote-next k name d c u o g lc eo es en er ec el et m =
+  said-next v name d c u o g lc eo es en er ec el et m =
       let os : List Out = all-out d in
-      let h = hear k c (current c) (own c) name in
+      let h = hear-vote v c (current c) (own c) name in
       let all : List Out = os ++ (act o ∷ []) in
       let lh : Logs roll A all h
-      = vote-logs roll A few all c (logs-more roll A os (act o ∷ []) c lc) k (current c) (own c) name (lc .round)
+      = vote-logs roll A few all c (logs-more roll A os (act o ∷ []) c lc) v (current c) (own c) name (lc .round)
       (rw (lc .roll-is) (omega (arith, few, own-seat)))
-      (rw (lc .roll-is, eo) (own-vote roll A os k (current c) name)) in
+      (rw (lc .roll-is, eo) (own-vote roll A os (kind-of v) (current c) name)) in
       out-next d u o g es (logs-same roll A all h u lh (en ∙ sym (lh .rounds-are ∙ sym (lc .rounds-are))) (er ∙ lc .roll-is ∙ sym (lh .roll-is)) (rw ec (lc .round)) el et) m
 
-  prevote-next : (name : ℕ) (d : Desk) → Next d →
-      (let o : List Out = said pv (current d) name ∷ [] in Moves (all-out d ++ o) (view d) o (standing (current d) 1 d)) → Next (prevote name d)
-  unfolding prevote hear-prevote
-  prevote-next name d g m = vote-next pv name d d (prevote name d) (output 2 (current d) 0 name) g (g .logs) refl refl refl refl refl refl refl m
-
-  precommit-next : (name : ℕ) (d c : Desk) → Next d → Logs roll A (all-out d) c → c .sent ≡ d .sent →
-      (let o : List Out = said pc (current c) name ∷ [] in Moves (all-out d ++ o) (view d) o (standing (current c) 2 c)) → Next (precommit name c)
-  unfolding precommit hear-precommit
-  precommit-next name d c g lc es m =
+  vote-next : (v : Votes) (name : ℕ) (d c : Desk) → Next d → Logs roll A (all-out d) c → c .sent ≡ d .sent →
+      (let o : List Out = said (kind-of v) (current c) name ∷ [] in Moves (all-out d ++ o) (view d) o (standing (current c) (step-number (step-of v)) c)) → Next (vote v name c)
+  unfolding vote message hear-vote
+  vote-next Prevotes name d c g lc es m =
+      let o = output 2 (current c) 0 name in
+      said-next Prevotes name d c (vote Prevotes name c) o g lc refl (ap (λ (x : List Output). x ++ (o ∷ [])) es) refl refl refl refl refl m
+  vote-next Precommits name d c g lc es m =
       let o = output 3 (current c) 0 name in
-      vote-next pc name d c (precommit name c) o g lc refl (ap (λ (x : List Output). x ++ (o ∷ [])) es) refl refl refl refl refl m
+      said-next Precommits name d c (vote Precommits name c) o g lc refl (ap (λ (x : List Output). x ++ (o ∷ [])) es) refl refl refl refl refl m
 
   -- a round entered, with a proposal or a timer
   pub start-next : (offer r : ℕ) (d : Desk) → Next d → r < most-rounds →
       ((os o : List Out) → Quiet o → Moves os (view d) o (standing r 0 d)) → Next (start-round offer r d)
-  unfolding start-round propose ask-propose hear-proposal
+  unfolding start-round propose ask message hear-proposal
   start-next offer r d g hr m =
       let e = with-state (with-stand (entered r) (d .state)) d in
       let sheet = sheet-to-propose offer d in
-      let valid = d .state .valid .next in
+      let valid = d .state .progress .valid .next .0 in
       let p = propose valid sheet e in
       let h = hear-proposal e r true valid sheet in
       let os = all-out d in
@@ -103,14 +104,14 @@ module _ (roll : Roll) (A : Arrived) (few : roll .kiosks ≤ 32) (own-seat : rol
       (λ t.
       told-next d p (output 1 r valid sheet) g refl (logs-same roll A os h p (proposal-logs roll A few os e l r true valid sheet) refl refl hr refl refl)
       (m _ _ (quiet-proposal (r ∷ valid ∷ sheet ∷ []))))
-      (λ t. told-next d (ask-propose e) (output 4 r 0 0) g refl (logs-same roll A os e (ask-propose e) l refl refl hr refl refl) (m _ _ quiet-other))
+      (λ t. told-next d (ask Propose e) (output 4 r 0 0) g refl (logs-same roll A os e (ask Propose e) l refl refl hr refl refl) (m _ _ quiet-other))
 
   -- ## Each deed
 
   module _ (d : Desk) (g : Next d) where
     -- what the log shows, the kiosk has heard, whatever it puts out next
-    shown : (k : Kind) (r name : ℕ) (o : List Out) → is-large d (power-for k d r name) ≡ true → Hears roll A (all-out d ++ o) k r name
-    shown k r name o big = heard-more roll A (all-out d) o k r name (votes-heard roll A few (all-out d) d (g .logs) k r name big)
+    shown : (v : Votes) (r name : ℕ) (o : List Out) → is-large d (power-for v d r name) ≡ true → Hears roll A (all-out d ++ o) (kind-of v) r name
+    shown v r name o big = heard-more roll A (all-out d) o (kind-of v) r name (votes-heard roll A few (all-out d) d (g .logs) v r name big)
 
     stays : SameLock (view d) (view d)
     stays = same-lock d (current d) (step-number (step d))
@@ -119,37 +120,37 @@ module _ (roll : Roll) (A : Arrived) (few : roll .kiosks ≤ 32) (own-seat : rol
         → u .table ≡ d .table → Logs roll A (all-out d) u
     same-log u en er ec el et = logs-same roll A (all-out d) d u (g .logs) en er (rw ec (g .logs .round)) el et
 
-    next-prevote : (name : ℕ) → step-number (step d) ≡ 0 → Prevotes d name → Next (prevote name d)
-    next-prevote name s (nil e) = rw e (prevote-next 0 d g (prevote-nil refl s refl refl (same-lock d (current d) 1)))
-    next-prevote name s (afresh ok e v free) = prevote-next name d g (prevote-new name refl s refl refl (same-lock d (current d) 1) free)
+    next-prevote : (name : ℕ) → step-number (step d) ≡ 0 → Why-prevote d name → Next (vote Prevotes name d)
+    next-prevote name s (nil e) = rw e (vote-next Prevotes 0 d d g (g .logs) refl (prevote-nil refl s refl refl (same-lock d (current d) 1)))
+    next-prevote name s (afresh ok e v free) = vote-next Prevotes name d d g (g .logs) refl (prevote-new name refl s refl refl (same-lock d (current d) 1) free)
     next-prevote name s (again vr ok e v less big free) =
-        prevote-next name d g
+        vote-next Prevotes name d d g (g .logs) refl
         (prevote-old name vr refl s refl refl (same-lock d (current d) 1) less
-        (shown pv vr name (said pv (current d) name ∷ []) big) free)
+        (shown Prevotes vr name (said pv (current d) name ∷ []) big) free)
 
-    next-asked : Next (ask-prevote d) × Next (ask-precommit d)
-    unfolding ask-prevote ask-precommit
+    next-asked : Next (ask Prevote d) × Next (ask Precommit d)
+    unfolding ask
     next-asked = (
-      told-next d (ask-prevote d) (output 5 (current d) 0 0) g refl (same-log (ask-prevote d) refl refl refl refl refl) (quiet quiet-other refl refl stays),
-      told-next d (ask-precommit d) (output 6 (current d) 0 0) g refl (same-log (ask-precommit d) refl refl refl refl refl) (quiet quiet-other refl refl stays),
+      told-next d (ask Prevote d) (output 5 (current d) 0 0) g refl (same-log (ask Prevote d) refl refl refl refl refl) (quiet quiet-other refl refl stays),
+      told-next d (ask Precommit d) (output 6 (current d) 0 0) g refl (same-log (ask Precommit d) refl refl refl refl refl) (quiet quiet-other refl refl stays),
     )
 
     next-settled : (r name : ℕ) → Closes d r name → Next (fire-49 r name d)
     unfolding fire-49
     next-settled r name c =
         told-next d (fire-49 r name d) (output 7 r 0 name) g refl (same-log (fire-49 r name d) refl refl refl refl refl)
-        (settle r name refl (c .some) (shown pc r name (settled r name ∷ []) (c .large)) refl refl stays)
+        (settle r name refl (c .some) (shown Precommits r name (settled r name ∷ []) (c .large)) refl refl stays)
 
   pub deed-next : (offer : ℕ) (d u : Desk) → Deed offer d u → Next d → Next u
   deed-next offer d u (prevotes name s f e) g = subst Next (sym e) (next-prevote d g name (at-propose (step d) s) f)
   deed-next offer d u (precommits-nil s e) g =
-      subst Next (sym e) (precommit-next 0 d d g (g .logs) refl (precommit-nil refl (at-prevote (step d) s) refl refl (same-lock d (current d) 2)))
+      subst Next (sym e) (vote-next Precommits 0 d d g (g .logs) refl (precommit-nil refl (at-prevote (step d) s) refl refl (same-lock d (current d) 2)))
   deed-next offer d u (locks name s f e) g =
       let c = with-state (with-locked (held (current d) name) (holding name d)) d in
       subst Next (sym e)
-      (precommit-next name d c g (same-log d g c refl refl refl refl refl) refl
+      (vote-next Precommits name d c g (same-log d g c refl refl refl refl refl) refl
       (precommit-sheet name refl (at-prevote (step d) s) refl refl refl refl
-      (shown d g pv (current d) name (said pc (current d) name ∷ []) (f .large))))
+      (shown d g Prevotes (current d) name (said pc (current d) name ∷ []) (f .large))))
   deed-next offer d u (holds name p s f e) g =
       subst Next (sym e) (record { logs = same-log d g (with-state (holding name d) d) refl refl refl refl refl; kept = g .kept })
   deed-next offer d u (asks-prevote s a l e) g = subst Next (sym e) (next-asked d g .0)

@@ -7,7 +7,7 @@ use lib.ListN.{length}
 use Rattle.words.specs.Members.{In}
 use Rattle.rules.specs.State.{is-settled}
 use Rattle.rules.specs.Log.{empty-table}
-use Rattle.answers.specs.declared.Answer.the-variants.{HeaderShort}
+use Rattle.refusals.specs.declared.Answer.the-variants.{HeaderShort}
 use Rattle.kiosk.specs.Opening.{Opened, failed, open-journal}
 use Rattle.kiosk.specs.Opening as opening
 use Rattle.history.specs.Histories.{Past, sent-in}
@@ -31,7 +31,7 @@ settled-sent powers height keeps fits tall third w reach i hi ki p d eb e =
     let h = q .history in
     let is : p ≡ h .past = on-so (law m i hi) (q .holds) eb .0 in
     recalled-out m i hi w (settling p) q
-    (subst (λ (x : Past). is-settled (x .kiosk .state .phase) ≡ true → In (settling x) (acts (sent-in (h .calls)))) (sym is) (settled-so (h .history)) e)
+    (subst (λ (x : Past). is-settled (x .kiosk .state .progress .phase) ≡ true → In (settling x) (acts (sent-in (h .calls)))) (sym is) (settled-so (h .history)) e)
 
 pub one-sheet-held : One-sheet-held
 one-sheet-held powers height keeps fits tall third w reach i j hi ki hj kj p q d f ei ej a b =

@@ -101,7 +101,7 @@ module _ (powers : List ℕ) (height : ℕ) (keeps : Seats) (w w′ : World powe
   -- to the header
   pub data Afresh : Type 0 where
     wake-afresh : (i : ℕ) (d : List ℕ) (p : Past) (used : ℕ) → Alone i → w .board i ≡ off d → May-open d (opened p used)
-        → w′ .board i ≡ on (beginning (roll-at powers height i)) (take (header-length (length powers)) d) → Afresh
+        → w′ .board i ≡ on (beginning (roll-at powers height i)) (take (header-length (roll-at powers height i)) d) → Afresh
 
   -- A second journal is created, although the one that is there opens
   pub data Two-journals : Type 0 where

@@ -20,12 +20,12 @@ use Rattle.rules.specs.Log.{empty-table, table-length, the-log}
 use Rattle.rules.specs.Doing.{the-doing}
 use Rattle.rules.specs.Rules.{the-rules}
 use Rattle.rules.specs.Work.{the-work}
-use Rattle.rules.specs.Ready.{packed}
+use Rattle.rules.specs.Sent.{packed}
 use Rattle.journal.specs.Layout.{header-bytes, header-length, group-bytes, group-length}
 use Rattle.journal.proofs.Roundtrip.{length-group}
-use Rattle.answers.specs.declared.Answer.{Answer}
-use Rattle.answers.specs.declared.Answer.the-variants.{Accepted, HeaderShort}
-use Rattle.answers.specs.Answers.{is-accepted}
+use Rattle.refusals.specs.declared.Answer.{Answer}
+use Rattle.refusals.specs.declared.Answer.the-variants.{Accepted, HeaderShort}
+use Rattle.refusals.specs.Answers.{is-accepted}
 use Rattle.refusals.specs.Possible.{the-possible}
 use Rattle.refusals.specs.Refusals.{is-proposal, is-vote, the-refusals}
 use Rattle.kiosk.specs.Judged.{the-judged}
@@ -181,11 +181,11 @@ module _ {roll : Roll} (is : List Input) {os : List Out} (s : Story roll is os) 
   story-outputs = ap acts (spoken (told s)) ∙ s .sent
 
   -- its file begins with the header
-  pub story-header : take (header-length (roll .kiosks)) (file-after roll is) ≡ file-after roll []
+  pub story-header : take (header-length roll) (file-after roll is) ≡ file-after roll []
   unfolding calls-of
   story-header =
       let head = header-bytes roll in
-      take-at head (in-order call-bytes (calls-of (beginning roll) is)) (header-length (roll .kiosks)) (created-length roll (s .created)) ∙ sym (append-nil head)
+      take-at head (in-order call-bytes (calls-of (beginning roll) is)) (header-length roll) (created-length roll (s .created)) ∙ sym (append-nil head)
 
 -- the first inputs of a story
 pub first-part : {roll : Roll} (is xs : List Input) {os : List Out} → Story roll (is ++ xs) os → Story roll is (acts (sent-in (calls-of (beginning roll) is)))
@@ -213,7 +213,7 @@ module _ {roll : Roll} (is : List Input) (x : Input) {os : List Out} (s : Story 
 
 module _ (powers : List ℕ) (height : ℕ) (fits : roll-fits (roll-at powers height 0) ≡ true) (tall : height < 2 ^ 32) (i : ℕ) (on-roll : i < length powers) where
   abbrev n : ℕ
-  n = header-length (length powers)
+  n = header-length (roll-at powers height i)
 
   abbrev room : List ℕ
   room = replicate n 0

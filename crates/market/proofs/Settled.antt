@@ -23,7 +23,7 @@ use Rattle.rules.specs.Work.{worked}
 use Rattle.rules.proofs.ByRule.{Runs}
 use Rattle.rules.proofs.Deeds.{sole, Closes, Deed, prevotes, precommits-nil, locks, holds, asks-prevote, asks-precommit, settles, enters}
 use Rattle.kiosk.proofs.Accepted.{Passes, accepted-passes}
-use Rattle.kiosk.proofs.Taken.{Taken, starts, hears-proposal, hears-prevote, hears-precommit, timer, call-keeps}
+use Rattle.kiosk.proofs.Taken.{Taken, starts, hears-proposal, hears-vote, timer, call-keeps}
 use Rattle.history.specs.Histories.{Call, Past, does, after, takes, History, sent-in}
 use Rattle.agreement.specs.Moves.{Out, settled}
 use Rattle.market.specs.Seat.{act, acts}
@@ -34,10 +34,10 @@ use Rattle.market.proofs.Honest.{history-told, at}
 
 -- output 7, as a settled desk says it
 abbrev closing : Desk → Output
-closing d = let r = settled-round (d .state .phase) in output 7 r 0 (proposed d r)
+closing d = let r = settled-round (d .state .progress .phase) in output 7 r 0 (proposed d r)
 
 abbrev Ends : Desk → Type 0
-Ends d = (is-settled (d .state .phase) ≡ false) ⊎ In (closing d) (d .sent)
+Ends d = (is-settled (d .state .progress .phase) ≡ false) ⊎ In (closing d) (d .sent)
 
 runs-on : (p : Phase) → is-running p ≡ true → is-settled p ≡ false
 runs-on Fresh e = refl
@@ -45,10 +45,10 @@ runs-on Running e = refl
 runs-on (Settled r) e = absurd (false≢true e)
 
 -- what a kiosk does but settling, and what it hears, changes no phase
-start-phase : (offer r : ℕ) (d : Desk) → start-round offer r d .state .phase ≡ d .state .phase
+start-phase : (offer r : ℕ) (d : Desk) → start-round offer r d .state .progress .phase ≡ d .state .progress .phase
 unfolding the-doing the-log
 start-phase offer r d =
-    by-test (λ (u : Desk). u .state .phase ≡ d .state .phase) (eqb (proposer (d .state .roll) r) (own d) && not (eqb (sheet-to-propose offer d) 0)) (λ e. refl) (λ e. refl)
+    by-test (λ (u : Desk). u .state .progress .phase ≡ d .state .progress .phase) (eqb (proposer (d .state .roll) r) (own d) && not (eqb (sheet-to-propose offer d) 0)) (λ e. refl) (λ e. refl)
 
 closes : (r name : ℕ) (d : Desk) → Closes d r name → In (closing (fire-49 r name d)) (fire-49 r name d .sent)
 unfolding fire-49
@@ -56,8 +56,8 @@ closes r name d c =
     let o = output 7 r 0 name in
     subst (λ (w : ℕ). In (output 7 r 0 w) (d .sent ++ (o ∷ []))) (sole d r name (c .sheet)) (In-right o (d .sent) (o ∷ []) (inl refl))
 
-same-phase : (d u : Desk) → Runs d → u .state .phase ≡ d .state .phase → Ends u
-same-phase d u run e = inl (rw e (runs-on (d .state .phase) run))
+same-phase : (d u : Desk) → Runs d → u .state .progress .phase ≡ d .state .progress .phase → Ends u
+same-phase d u run e = inl (rw e (runs-on (d .state .progress .phase) run))
 
 deed-ends : (offer : ℕ) (d u : Desk) → Runs d → Deed offer d u → Ends u
 unfolding the-doing the-log
@@ -74,8 +74,7 @@ taken-ends : (d : Desk) (i : Input) (u : Desk) → Taken d i u → Ends u
 unfolding the-log
 taken-ends d i u (starts fresh k e) = inl (rw (e, start-phase (i .offer) 0 (with-state (with-phase Running (d .state)) d)))
 taken-ends d i u (hears-proposal m k turn some low n e) = same-phase d u (m .runs) (rw e)
-taken-ends d i u (hears-prevote m k n e) = same-phase d u (m .runs) (rw e)
-taken-ends d i u (hears-precommit m k n e) = same-phase d u (m .runs) (rw e)
+taken-ends d i u (hears-vote v m k n e) = same-phase d u (m .runs) (rw e)
 taken-ends d i u (timer run late did) = deed-ends (i .offer) d u run did
 
 call-ends : (d : Desk) (i : Input) → Passes d i → Ends (worked i d)
@@ -84,7 +83,7 @@ call-ends d i p = call-keeps d i p Ends (taken-ends d i) (λ e u run did h. deed
 -- ## After a history
 
 abbrev pub settling : Past → Out
-settling p = settled (settled-round (p .kiosk .state .phase)) (settled-sheet p)
+settling p = settled (settled-round (p .kiosk .state .progress .phase)) (settled-sheet p)
 
 -- among the outputs, those of the calls
 acts-in : (o : Output) (os : List Output) → In o os → In (act o) (acts os)
@@ -93,7 +92,7 @@ acts-in o (x ∷ os) (inl e) = inl (ap act e)
 acts-in o (x ∷ os) (inr h) = inr (acts-in o os h)
 
 abbrev Shut : List Out → Past → Type 0
-Shut os p = is-settled (p .kiosk .state .phase) ≡ true → In (settling p) os
+Shut os p = is-settled (p .kiosk .state .progress .phase) ≡ true → In (settling p) os
 
 shut-after : (os : List Out) (p : Past) (i : Input) → takes p i ≡ true → Shut (os ++ acts (does p i .sent)) (after p i)
 shut-after os p i t e =
@@ -103,5 +102,5 @@ shut-after os p i t e =
     (λ h. In-right (settling (after p i)) os (acts (u .sent)) (acts-in (closing u) (u .sent) h))
     (call-ends (at p) i (accepted-passes (p .kiosk .used) (p .kiosk) (p .table) i t))
 
-pub settled-so : {roll : Roll} {cs : List Call} {p : Past} → History roll cs p → is-settled (p .kiosk .state .phase) ≡ true → In (settling p) (acts (sent-in cs))
+pub settled-so : {roll : Roll} {cs : List Call} {p : Past} → History roll cs p → is-settled (p .kiosk .state .progress .phase) ≡ true → In (settling p) (acts (sent-in cs))
 settled-so h = history-told h Shut (λ e. absurd (false≢true e)) (λ few own-seat os p i t new s. shut-after os p i t)

@@ -14,7 +14,7 @@ use Rattle.roll.specs.declared.Roll.{Roll}
 use Rattle.roll.specs.Weighing.{power-of, total-of, roll-fits, roll-with}
 use Rattle.rules.specs.State.{is-settled, settled-round}
 use Rattle.rules.specs.Log.{table-length, desk, proposed}
-use Rattle.answers.specs.declared.Answer.the-variants.{Accepted, HeaderShort}
+use Rattle.refusals.specs.declared.Answer.the-variants.{Accepted, HeaderShort}
 use Rattle.kiosk.specs.declared.Reply.{Reply}
 use Rattle.kiosk.specs.Opening.{open-journal}
 use Rattle.kiosk.specs.Promises.{Opens}
@@ -72,14 +72,14 @@ One-sheet-sent =
 
 -- the sheet of a settled state: the name that the table holds of its round
 abbrev pub settled-sheet : Past → ℕ
-settled-sheet p = proposed (desk (p .kiosk .state) (p .table)) (settled-round (p .kiosk .state .phase))
+settled-sheet p = proposed (desk (p .kiosk .state) (p .table)) (settled-round (p .kiosk .state .progress .phase))
 
 -- a settled state of a kiosk with power is one that output 7 was put out for, with its round and its sheet
 abbrev pub Settled-sent : Type 0
 Settled-sent =
     In-every-market (λ powers height keeps w.
     (i : ℕ) → i < length powers → keeps i ≡ true → (p : Past) (d : List ℕ) → w .board i ≡ on p d →
-    is-settled (p .kiosk .state .phase) ≡ true → Put-out powers height keeps w i (settled (settled-round (p .kiosk .state .phase)) (settled-sheet p)))
+    is-settled (p .kiosk .state .progress .phase) ≡ true → Put-out powers height keeps w i (settled (settled-round (p .kiosk .state .progress .phase)) (settled-sheet p)))
 
 -- and so two settled states have one sheet
 abbrev pub One-sheet-held : Type 0
@@ -87,7 +87,7 @@ One-sheet-held =
     In-every-market (λ powers height keeps w.
     (i j : ℕ) → i < length powers → keeps i ≡ true → j < length powers → keeps j ≡ true →
     (p q : Past) (d f : List ℕ) → w .board i ≡ on p d → w .board j ≡ on q f →
-    is-settled (p .kiosk .state .phase) ≡ true → is-settled (q .kiosk .state .phase) ≡ true →
+    is-settled (p .kiosk .state .progress .phase) ≡ true → is-settled (q .kiosk .state .progress .phase) ≡ true →
     settled-sheet p ≡ settled-sheet q)
 
 -- Opening what a power cut left, whatever area and table are lent: 13, and then this kiosk never sent anything; or the state and the table

@@ -8,9 +8,9 @@ use lib.Dec.{eqb}
 use Rattle.words.specs.Choice.{if_then_else_}
 use Rattle.rules.specs.declared.Input.{Input}
 use Rattle.rules.specs.Log.{table-length}
-use Rattle.answers.specs.declared.Answer.{Answer}
-use Rattle.answers.specs.declared.Answer.the-variants.{Accepted}
-use Rattle.answers.specs.Answers.{number-of, is-accepted}
+use Rattle.refusals.specs.declared.Answer.{Answer}
+use Rattle.refusals.specs.declared.Answer.the-variants.{Accepted}
+use Rattle.refusals.specs.Answers.{number-of, is-accepted}
 use Rattle.kiosk.specs.declared.Made.{Made}
 use Rattle.kiosk.specs.declared.Reply.{Reply}
 use Rattle.kiosk.specs.Calls.{create, put}

@@ -18,7 +18,7 @@ use Rattle.agreement.specs.Moves.{Out, prevote, precommit, settled, proposal, o
 -- "Outputs: 1 proposal, 2 prevote, 3 precommit, 4/5/6 ask for a timer of propose/prevote/precommit, 7 settled."
 abbrev pub act : Output → Out
 act o =
-    if eqb (o .kind) 1 then proposal (o .round .0 ∷ o .valid ∷ o .name ∷ [])
+    if eqb (o .kind) 1 then proposal (o .round .0 ∷ o .valid .0 ∷ o .name ∷ [])
     else if eqb (o .kind) 2 then prevote (o .round .0) (o .name)
     else if eqb (o .kind) 3 then precommit (o .round .0) (o .name)
     else if eqb (o .kind) 7 then settled (o .round .0) (o .name)
@@ -31,7 +31,7 @@ acts (o ∷ os) = act o ∷ acts os
 -- "Inputs: 1 start, 2 proposal, 3 prevote, 4 precommit": what a message says
 abbrev pub message : Input → Out
 message i =
-    if eqb (i .kind) 2 then proposal (i .round .0 ∷ i .valid ∷ i .name ∷ [])
+    if eqb (i .kind) 2 then proposal (i .round .0 ∷ i .valid .0 ∷ i .name ∷ [])
     else if eqb (i .kind) 3 then prevote (i .round .0) (i .name)
     else precommit (i .round .0) (i .name)
 
@@ -45,4 +45,4 @@ step-number Prevote = 1
 step-number Precommit = 2
 
 abbrev pub view : Desk → View
-view d = record { round = current d; step = step-number (step d); lr = d .state .locked .next; lv = d .state .locked .name }
+view d = record { round = current d; step = step-number (step d); lr = d .state .progress .locked .next .0; lv = d .state .progress .locked .name }

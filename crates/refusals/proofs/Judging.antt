@@ -7,7 +7,7 @@ use native.Mathlib.Numerals.{add-one}
 use native.Mathlib.Omega.{arith}
 use borrow.Author.Tests.{ltb-true, ltb-false, leb-true, leb-false, eqb-true, eqb-false, lt-ltb, le-ltb, eq-eqb, ne-eqb, not-true, not-false}
 use lib.Bits.{bitOr, or-zero-l, or-add-and, or-lt, and-le-l, and-le-r}
-use lib.Dec.{ltb, leb, eqb, eqb·suc-suc}
+use lib.Dec.{ltb, leb, eqb}
 use lib.ListN.{length, drop, getD, drop-of-length-le}
 use lib.Pow.{pow-mono}
 use lib.Seq.{drop-cons}
@@ -21,11 +21,12 @@ use Rattle.rules.specs.declared.Input.{Input}
 use Rattle.rules.specs.State.{settled-round, is-fresh, is-settled}
 use Rattle.rules.specs.Log.{Desk, desk, told, proposal-place}
 use Rattle.rules.specs.Rules.{first-rule, is-rule}
-use Rattle.rules.specs.Ready.{Ready}
-use Rattle.answers.specs.declared.Answer.{Answer}
-use Rattle.answers.specs.declared.Answer.the-variants.{Accepted, AlreadySettled, OutOfOrder, OtherHeight, BadField, OwnNumber, NotProposer, HeardSame, HeardOther, TimerNotDue, LastRound}
+use Rattle.rules.specs.contracts.Ready.{Ready}
+use Rattle.refusals.specs.declared.Answer.{Answer}
+use Rattle.refusals.specs.declared.Answer.the-variants.{Accepted, AlreadySettled, OutOfOrder, OtherHeight, BadField, OwnNumber, NotProposer, HeardSame, HeardOther, TimerNotDue, LastRound}
 use Rattle.refusals.specs.Possible.{round-fits, held-fits, fresh-fits, at-rest, desk-fits}
-use Rattle.refusals.specs.Refusals.{is-start, is-proposal, is-vote, is-timer, kind-fits, fields-fit, place-heard, same-heard, timer-due, refused-message, refused-input}
+use Rattle.refusals.specs.contracts.Parts.{marks-fit, proposed-fits}
+use Rattle.refusals.specs.Refusals.{is-start, is-proposal, is-vote, is-timer, kind-fits, fields-fit, place-heard, same-heard, timer-due, refused-from-6, refused-input}
 
 -- ---- the table before start: its numbers are joined
 
@@ -69,32 +70,25 @@ unfolding all-below
 all-over f k {b} e h = rw (add-one, ← e, h) (sym (and-true b))
 
 -- the tests of a round's marks and of its proposal, asked of the rounds before it as well
-both-more : (ms ps m p q r : Bool) {all : Bool} → (ms && ps) ≡ all
-    → ((ms && m) && (ps && (p && (q || r)))) ≡ (all && (m && p && (not (not q) || r)))
-both-more true ps true p true r e = rw (← e)
-both-more true ps true p false r e = rw (← e)
-both-more true true false p q r e = rw (← e)
-both-more true false false p q r e = rw (← e)
-both-more false ps m p q r e = rw (← e)
-
--- a round's marks are of seats on the roll; its proposal may be heard of it
-abbrev marks-so : State → ℕ → Bool
-marks-so s r = ltb (getD (s .log .prevotes) r 0) (2 ^ s .roll .kiosks) && ltb (getD (s .log .precommits) r 0) (2 ^ s .roll .kiosks)
-
-abbrev proposal-so : State → List ℕ → ℕ → Bool
-proposal-so s t r =
-    leb (getD (s .log .proposals) r 0) 2 &&
-    (eqb (getD (s .log .proposals) r 0) 0 || (not (eqb (getD t (proposal-place r) 0) 0) && leb (getD (s .log .valids) r 0) r))
+both-more : (ms ps m p : Bool) {all : Bool} → (ms && ps) ≡ all → ((ms && m) && (ps && p)) ≡ (all && (m && p))
+both-more true ps true p e = rw (← e)
+both-more true true false p e = rw (← e)
+both-more true false false p e = rw (← e)
+both-more false ps m p e = rw (← e)
 
 -- asked of every round apart, they are what is asked of every round
-pub rounds-both : (s : State) (t : List ℕ) (n : ℕ)
-    → (all-below n (λ r. marks-so s r) && all-below n (λ r. proposal-so s t r)) ≡ all-below n (λ r. round-fits (desk s t) r)
-unfolding all-below round-fits told
-rounds-both s t zero = refl
-rounds-both s t (suc n) =
-    both-more (all-below n (λ r. marks-so s r)) (all-below n (λ r. proposal-so s t r)) (marks-so s n)
-    (leb (getD (s .log .proposals) n 0) 2) (eqb (getD (s .log .proposals) n 0) 0)
-    (not (eqb (getD t (proposal-place n) 0) 0) && leb (getD (s .log .valids) n 0) n) (rounds-both s t n)
+module _ (s : State) (t : List ℕ) where
+  abbrev marks-so : ℕ → Bool
+  marks-so r = marks-fit (s .roll .kiosks) (told (s .log) r)
+
+  abbrev proposal-so : ℕ → Bool
+  proposal-so r = proposed-fits r (getD t (proposal-place r) 0) (told (s .log) r)
+
+  pub rounds-both : (n : ℕ) → (all-below n (λ r. marks-so r) && all-below n (λ r. proposal-so r)) ≡ all-below n (λ r. round-fits (desk s t) r)
+  unfolding all-below round-fits
+  rounds-both zero = refl
+  rounds-both (suc n) =
+      both-more (all-below n (λ r. marks-so r)) (all-below n (λ r. proposal-so r)) (marks-so n) (proposal-so n) (rounds-both n)
 
 -- the first number past the marks of n seats, as the code has it
 pub past-marks : (n : ℕ) → n ≤ 32 → 1 * 2 ^ n % 18446744073709551616 ≡ 2 ^ n
@@ -128,15 +122,15 @@ module _ (s : State) (t : List ℕ) where
       places-not n = rw (a, b, ne-eqb (length t) 1040 n)
 
       module _ (places : length t ≡ 1040) where
-        pub round-not : 16 ≤ s .stand .round .0 → false ≡ desk-fits (desk s t)
+        pub round-not : 16 ≤ s .progress .stand .round .0 → false ≡ desk-fits (desk s t)
         unfolding desk-fits
-        round-not n = rw (a, b, eq-eqb (length t) 1040 places, le-ltb (s .stand .round .0) 16 n)
+        round-not n = rw (a, b, eq-eqb (length t) 1040 places, le-ltb (s .progress .stand .round .0) 16 n)
 
-        module _ (round : s .stand .round .0 < 16) where
-          pub settled-not : {r : ℕ} → r ≡ settled-round (s .phase) → 16 ≤ r → false ≡ desk-fits (desk s t)
+        module _ (round : s .progress .stand .round .0 < 16) where
+          pub settled-not : {r : ℕ} → r ≡ settled-round (s .progress .phase) → 16 ≤ r → false ≡ desk-fits (desk s t)
           unfolding desk-fits
           settled-not e n =
-              rw (a, b, eq-eqb (length t) 1040 places, lt-ltb (s .stand .round .0) 16 round, le-ltb (settled-round (s .phase)) 16 (rw e at n))
+              rw (a, b, eq-eqb (length t) 1040 places, lt-ltb (s .progress .stand .round .0) 16 round, le-ltb (settled-round (s .progress .phase)) 16 (rw e at n))
 
           pub ready : Ready s t
           ready = record {
@@ -157,9 +151,9 @@ desk-ready s t y =
     by-cases (eqb (length t) 1040)
     (λ p.
     let places = eqb-true (length t) 1040 p in
-    by-cases (ltb (s .stand .round .0) 16)
-    (λ r. ready s t a b places (ltb-true (s .stand .round .0) 16 r))
-    (λ n. absurd (false≢true (round-not s t a b places (ltb-false (s .stand .round .0) 16 n) ∙ y))))
+    by-cases (ltb (s .progress .stand .round .0) 16)
+    (λ r. ready s t a b places (ltb-true (s .progress .stand .round .0) 16 r))
+    (λ n. absurd (false≢true (round-not s t a b places (ltb-false (s .progress .stand .round .0) 16 n) ∙ y))))
     (λ n. absurd (false≢true (places-not s t a b (eqb-false (length t) 1040 n) ∙ y))))
     (λ n. absurd (false≢true (own-not s t a n ∙ y))))
     (λ n. absurd (false≢true (roll-not s t n ∙ y)))
@@ -169,19 +163,19 @@ pub record Begun (s : State) (t : List ℕ) : Type 0 where
   pub roll : roll-fits (s .roll) ≡ true
   pub own : own-fits (s .roll) ≡ true
   pub places : length t ≡ 1040
-  pub round : s .stand .round .0 < 16
-  pub settled : settled-round (s .phase) < 16
+  pub round : s .progress .stand .round .0 < 16
+  pub settled : settled-round (s .progress .phase) < 16
 
 module _ (s : State) (t : List ℕ) (b : Begun s t) {all : Bool} (rounds : all ≡ all-below 16 (λ r. round-fits (desk s t) r)) where
-  begun : desk-fits (desk s t) ≡ (all && held-fits (s .stand .round .0) (s .locked) && held-fits (s .stand .round .0) (s .valid) && at-rest (desk s t))
+  begun : desk-fits (desk s t) ≡ (all && held-fits (s .progress .stand .round .0) (s .progress .locked) && held-fits (s .progress .stand .round .0) (s .progress .valid) && at-rest (desk s t))
   unfolding desk-fits
   begun =
-      rw (b .roll, b .own, eq-eqb (length t) 1040 (b .places), lt-ltb (s .stand .round .0) 16 (b .round), lt-ltb (settled-round (s .phase)) 16 (b .settled), ← rounds)
+      rw (b .roll, b .own, eq-eqb (length t) 1040 (b .places), lt-ltb (s .progress .stand .round .0) 16 (b .round), lt-ltb (settled-round (s .progress .phase)) 16 (b .settled), ← rounds)
 
   pub rounds-not : not all ≡ true → false ≡ desk-fits (desk s t)
   rounds-not n = rw (begun, not-true all n)
 
-  module _ (y : not all ≡ false) {x z : Bool} (locked : x ≡ held-fits (s .stand .round .0) (s .locked)) (valid : z ≡ held-fits (s .stand .round .0) (s .valid)) where
+  module _ (y : not all ≡ false) {x z : Bool} (locked : x ≡ held-fits (s .progress .stand .round .0) (s .progress .locked)) (valid : z ≡ held-fits (s .progress .stand .round .0) (s .progress .valid)) where
     pub held-not : not (x && z) ≡ true → false ≡ desk-fits (desk s t)
     held-not n = rw (begun, ← locked, ← valid, not-false all y, not-true (x && z) n)
 
@@ -189,11 +183,11 @@ module _ (s : State) (t : List ℕ) (b : Begun s t) {all : Bool} (rounds : all �
       held-then : r ≡ at-rest (desk s t) → r ≡ desk-fits (desk s t)
       held-then e = rw (begun, ← locked, ← valid, not-false all y, not-false (x && z) h, e)
 
-      pub fresh-then : is-fresh (s .phase) ≡ true → r ≡ fresh-fits (desk s t) → r ≡ desk-fits (desk s t)
+      pub fresh-then : is-fresh (s .progress .phase) ≡ true → r ≡ fresh-fits (desk s t) → r ≡ desk-fits (desk s t)
       unfolding at-rest
       fresh-then f e = held-then (rw (f, e))
 
-      pub started-then : is-fresh (s .phase) ≡ false → r ≡ not (is-rule (first-rule (desk s t))) → r ≡ desk-fits (desk s t)
+      pub started-then : is-fresh (s .progress .phase) ≡ false → r ≡ not (is-rule (first-rule (desk s t))) → r ≡ desk-fits (desk s t)
       unfolding at-rest
       started-then f e = held-then (rw (f, e))
 
@@ -228,12 +222,12 @@ not-in-order false true e = refl
 not-in-order false false e = sym e
 
 -- refusals 2 to 5
-module _ (s : State) (t : List ℕ) (i : Input) {a : Bool} (ends : a ≡ is-settled (s .phase)) where
+module _ (s : State) (t : List ℕ) (i : Input) {a : Bool} (ends : a ≡ is-settled (s .progress .phase)) where
   pub already-settled : a ≡ true → AlreadySettled ≡ refused-input (desk s t) i
   unfolding refused-input
   already-settled y = rw (← ends, y)
 
-  module _ (n : a ≡ false) {f g : Bool} (begins : f ≡ is-fresh (s .phase)) (starts : g ≡ is-start i) where
+  module _ (n : a ≡ false) {f g : Bool} (begins : f ≡ is-fresh (s .progress .phase)) (starts : g ≡ is-start i) where
     pub out-of-order : Bool·beq f g ≡ false → OutOfOrder ≡ refused-input (desk s t) i
     unfolding refused-input
     out-of-order e = rw (← ends, n, ← begins, ← starts, not-in-order f g e)
@@ -248,7 +242,7 @@ module _ (s : State) (t : List ℕ) (i : Input) {a : Bool} (ends : a ≡ is-sett
         unfolding refused-input
         bad-field e = rw (← ends, n, ← begins, ← starts, in-order f g o, eq-eqb (i .height .0) (s .roll .height .0) h, ← fields, not-true k e)
 
-        pub by-message : not k ≡ false → {r : Answer} → r ≡ refused-message (desk s t) i → r ≡ refused-input (desk s t) i
+        pub by-message : not k ≡ false → {r : Answer} → r ≡ refused-from-6 (desk s t) i → r ≡ refused-input (desk s t) i
         unfolding refused-input
         by-message e m = rw (m, ← ends, n, ← begins, ← starts, in-order f g o, eq-eqb (i .height .0) (s .roll .height .0) h, ← fields, not-false k e)
 
@@ -263,41 +257,41 @@ heard-or-due d i =
 
 -- refusals 6 and 7
 module _ (s : State) (t : List ℕ) (i : Input) {p v : Bool} (proposes : p ≡ is-proposal i) (votes : v ≡ is-vote i) where
-  pub own-number : ((p || v) && eqb (i .sender) (s .roll .own)) ≡ true → OwnNumber ≡ refused-message (desk s t) i
-  unfolding refused-message
+  pub own-number : ((p || v) && eqb (i .sender) (s .roll .own)) ≡ true → OwnNumber ≡ refused-from-6 (desk s t) i
+  unfolding refused-from-6
   own-number e = let a = rw (proposes, votes) at e in rw a
 
   module _ (n : ((p || v) && eqb (i .sender) (s .roll .own)) ≡ false) {q : Bool} {turn : ℕ} (proposes′ : q ≡ is-proposal i)
       (whose : turn ≡ proposer (s .roll) (i .round .0)) where
-    pub not-proposer : (q && not (eqb (i .sender) turn)) ≡ true → NotProposer ≡ refused-message (desk s t) i
-    unfolding refused-message
+    pub not-proposer : (q && not (eqb (i .sender) turn)) ≡ true → NotProposer ≡ refused-from-6 (desk s t) i
+    unfolding refused-from-6
     not-proposer e =
         let a = rw (proposes, votes) at n in
         let b = rw (proposes′, whose) at e in
         rw (a, b)
 
-    pub sender-passes : (q && not (eqb (i .sender) turn)) ≡ false → refused-message (desk s t) i ≡ heard-or-due (desk s t) i
-    unfolding refused-message
+    pub sender-passes : (q && not (eqb (i .sender) turn)) ≡ false → refused-from-6 (desk s t) i ≡ heard-or-due (desk s t) i
+    unfolding refused-from-6
     sender-passes e =
         let a = rw (proposes, votes) at n in
         let b = rw (proposes′, whose) at e in
         rw (a, b)
 
 -- refusals 8 to 11
-module _ (s : State) (t : List ℕ) (i : Input) (e : refused-message (desk s t) i ≡ heard-or-due (desk s t) i) {h : Bool} (hears : h ≡ place-heard (desk s t) i) where
-  pub heard-same : h ≡ true → {b : Bool} → b ≡ same-heard (desk s t) i → b ≡ true → HeardSame ≡ refused-message (desk s t) i
+module _ (s : State) (t : List ℕ) (i : Input) (e : refused-from-6 (desk s t) i ≡ heard-or-due (desk s t) i) {h : Bool} (hears : h ≡ place-heard (desk s t) i) where
+  pub heard-same : h ≡ true → {b : Bool} → b ≡ same-heard (desk s t) i → b ≡ true → HeardSame ≡ refused-from-6 (desk s t) i
   heard-same y same g = rw (e, ← hears, ← same, y, g)
 
-  pub heard-other : h ≡ true → {b : Bool} → b ≡ same-heard (desk s t) i → b ≡ false → HeardOther ≡ refused-message (desk s t) i
+  pub heard-other : h ≡ true → {b : Bool} → b ≡ same-heard (desk s t) i → b ≡ false → HeardOther ≡ refused-from-6 (desk s t) i
   heard-other y same g = rw (e, ← hears, ← same, y, g)
 
   module _ (n : h ≡ false) {k d : Bool} (times : k ≡ is-timer i) (due : d ≡ timer-due (desk s t) i) where
-    pub not-due : (k && not d) ≡ true → TimerNotDue ≡ refused-message (desk s t) i
+    pub not-due : (k && not d) ≡ true → TimerNotDue ≡ refused-from-6 (desk s t) i
     not-due l = rw (e, ← hears, n, ← times, ← due, l)
 
     module _ (l : (k && not d) ≡ false) where
-      pub last-round : (eqb (i .kind) 7 && eqb (i .round .0) 15) ≡ true → LastRound ≡ refused-message (desk s t) i
-      last-round y = rw (e, ← hears, n, ← times, ← due, l, eqb·suc-suc (i .round .0) 15, y)
+      pub last-round : (eqb (i .kind) 7 && eqb (i .round .0 + 1) 16) ≡ true → LastRound ≡ refused-from-6 (desk s t) i
+      last-round y = let z = rw add-one at y in rw (e, ← hears, n, ← times, ← due, l, z)
 
-      pub accepted : (eqb (i .kind) 7 && eqb (i .round .0) 15) ≡ false → Accepted ≡ refused-message (desk s t) i
-      accepted y = rw (e, ← hears, n, ← times, ← due, l, eqb·suc-suc (i .round .0) 15, y)
+      pub accepted : (eqb (i .kind) 7 && eqb (i .round .0 + 1) 16) ≡ false → Accepted ≡ refused-from-6 (desk s t) i
+      accepted y = let z = rw add-one at y in rw (e, ← hears, n, ← times, ← due, l, z)

@@ -3,40 +3,36 @@ use applies::when::first_rule;
 use roll::Roll;
 use roll::Round;
 use rules::Held;
-use rules::Votes;
+use rules::Log;
+use rules::Progress;
+use rules::State;
+use rules::enums::is_fresh;
+use rules::enums::is_rule;
+use rules::enums::settled_round;
+use rules::places::heard_in;
 use rules::places::proposed;
-use rules::tests::is_fresh;
-use rules::tests::is_rule;
-use rules::tests::settled_round;
-ghost use Prim.Native.Nat.{ℕ, _^_, _≤_};
+ghost use Prim.Native.Nat.{_^_, _≤_};
 ghost use mathlib.Core.Path.{_≡_};
-ghost use mathlib.Core.List.{List};
-ghost use mathlib.Core.Bool.{_&&_, _||_, not};
-ghost use lib.Dec.{ltb, leb, eqb};
+ghost use lib.Dec.{ltb};
 ghost use lib.ListN.{length, getD};
 ghost use Rattle.words.specs.Choice.{all-below, all-zero};
 ghost use Rattle.roll.specs.declared.Roll as rolls;
-ghost use Rattle.rules.specs.declared.Votes as voting;
-ghost use Rattle.rules.specs.State.{log-of, state-of, silent};
+ghost use Rattle.roll.specs.Weighing.{most-kiosks};
+ghost use Rattle.rules.specs.State.{most-rounds, state-of, unheard};
 ghost use Rattle.rules.specs.Log.{desk, told, table-length, proposal-place};
-ghost use Rattle.refusals.specs.Possible.{held-fits, round-fits, fresh-fits, desk-fits};
+ghost use Rattle.refusals.specs.Possible.{held-fits, fresh-fits, desk-fits};
+ghost use Rattle.refusals.specs.contracts.Parts.{marks-fit, proposed-fits};
 
 // Whether a sheet is held from a round up to the current one, with a name; or none is.
 fn held_fits(r: Round, h: Held) -> bool
     ensures { λ b. ⌜ b ≡ held-fits (r .0) h ⌝ }
 {
-    if (r.0 as u16) + 1 < (h.next as u16) {
-        return false;
-    }
-    if h.next == 0 {
-        return h.name == 0;
-    }
-    h.name != 0
+    ((h.next.0 as u16) <= (r.0 as u16) + 1) & ((h.next.0 == 0) == (h.name == 0))
 }
 
 // Whether each seat marked is on a roll of so many kiosks.
 fn on_roll(kiosks: usize, marks: u32) -> bool
-    requires { ⌜ kiosks ≤ 32 ⌝ }
+    requires { ⌜ kiosks ≤ most-kiosks ⌝ }
     ensures { λ b. ⌜ b ≡ ltb marks (2 ^ kiosks) ⌝ }
 {
     let seats = 1u64 << kiosks;
@@ -44,68 +40,50 @@ fn on_roll(kiosks: usize, marks: u32) -> bool
 }
 
 // Whether every mark is of a seat on the roll. The marks are joined and their joint is asked at the end.
-fn marks_fit<'a>(kiosks: usize, prevotes: &'a [u32; 16], precommits: &'a [u32; 16]) -> bool
-    requires { ⌜ kiosks ≤ 32 ⌝ }
-    ensures { λ b. ⌜ b ≡ all-below 16 (λ r. ltb (getD (now (prevotes .entry)) r 0) (2 ^ kiosks) && ltb (getD (now (precommits .entry)) r 0) (2 ^ kiosks)) ⌝ }
+fn marks_fit(kiosks: usize, log: &Log) -> bool
+    requires { ⌜ kiosks ≤ most-kiosks ⌝ }
+    ensures { λ b. ⌜ b ≡ all-below most-rounds (λ r. marks-fit kiosks (told (now (log .entry)) r)) ⌝ }
 {
     let mut marks: u32 = 0;
-    let mut at: usize = 0;
-    while at < 16 {
-        marks = marks | (prevotes[at] | precommits[at]);
-        at += 1;
+    let mut r: usize = 0;
+    while r < State::ROUNDS {
+        let h = heard_in(log, r);
+        marks = marks | (h.prevotes | h.precommits);
+        r += 1;
     }
     on_roll(kiosks, marks)
 }
 
 // Whether every proposal heard may be heard of its round. A round without one is passed at once.
-fn proposals_fit<'a>(proposals: &'a [u8; 16], valids: &'a [u8; 16], table: &[u64]) -> bool
+fn proposals_fit(log: &Log, table: &[u64]) -> bool
     requires { ⌜ length (now table) ≡ table-length ⌝ }
-    ensures { λ b. ⌜ b ≡ all-below 16 (λ r. leb (getD (now (proposals .entry)) r 0) 2 && (eqb (getD (now (proposals .entry)) r 0) 0 || (not (eqb (getD (now (table .entry)) (proposal-place r) 0) 0) && leb (getD (now (valids .entry)) r 0) r))) ⌝ }
+    ensures { λ b. ⌜ b ≡ all-below most-rounds (λ r. proposed-fits r (getD (now (table .entry)) (proposal-place r) 0) (told (now (log .entry)) r)) ⌝ }
 {
     let mut fit = true;
-    let mut r: u8 = 0;
-    while r < 16 {
-        let at = r as usize;
-        let proposal = proposals[at];
-        if proposal == 0 {
+    let mut r: usize = 0;
+    while r < State::ROUNDS {
+        let h = heard_in(log, r);
+        if h.proposal == 0 {
             r += 1;
             continue;
         }
-        let name = proposed(table, Round(r));
-        fit = fit & ((proposal <= 2) & (!(name == 0) & (valids[at] <= r)));
+        let name = proposed(table, Round(r as u8));
+        fit = fit & (!(name == 0) & (h.valid <= (r as u32)));
         r += 1;
     }
     fit
 }
 
-// The marks and the proposal of every round.
-fn rounds_fit<'a>(
-    kiosks: usize,
-    prevotes: &'a [u32; 16],
-    precommits: &'a [u32; 16],
-    proposals: &'a [u8; 16],
-    valids: &'a [u8; 16],
-    table: &[u64],
-) -> bool
-    requires { ⌜ (kiosks ≤ 32) × (length (now table) ≡ table-length) ⌝ }
-    ensures { λ b. ⌜ ((roll : rolls.Roll) (v : voting.Votes) → kiosks ≡ roll .kiosks → b ≡ all-below 16 (λ r. round-fits (desk (state-of roll v (log-of (now (prevotes .entry)) (now (precommits .entry)) (now (proposals .entry)) (now (valids .entry)))) (now (table .entry))) r)) ⌝ }
-{
-    marks_fit(kiosks, prevotes, precommits) & proposals_fit(proposals, valids, table)
-}
-
-// A valid round says nothing of a round without a proposal, so none is read.
-fn all_silent<'a>(
-    prevotes: &'a [u32; 16],
-    precommits: &'a [u32; 16],
-    proposals: &'a [u8; 16],
-) -> bool
-    ensures { λ b. ⌜ ((valids : List ℕ) → b ≡ all-below 16 (λ r. silent (told (log-of (now (prevotes .entry)) (now (precommits .entry)) (now (proposals .entry)) valids) r))) ⌝ }
+// A valid round says nothing of a round without a proposal, so none is asked.
+fn all_unheard(log: &Log) -> bool
+    ensures { λ b. ⌜ b ≡ all-below most-rounds (λ r. unheard (told (now (log .entry)) r)) ⌝ }
 {
     let mut all = true;
-    let mut at: usize = 0;
-    while at < 16 {
-        all = all & ((proposals[at] == 0) & (prevotes[at] == 0) & (precommits[at] == 0));
-        at += 1;
+    let mut r: usize = 0;
+    while r < State::ROUNDS {
+        let h = heard_in(log, r);
+        all = all & ((h.proposal == 0) & (h.prevotes == 0) & (h.precommits == 0));
+        r += 1;
     }
     all
 }
@@ -124,72 +102,46 @@ fn all_zero(table: &[u64]) -> bool
 }
 
 // Before start nothing is heard or held.
-fn fresh_fits<'a>(
-    votes: Votes,
-    prevotes: &'a [u32; 16],
-    precommits: &'a [u32; 16],
-    proposals: &'a [u8; 16],
-    table: &[u64],
-) -> bool
-    ensures { λ b. ⌜ ((roll : rolls.Roll) (valids : List ℕ) → b ≡ fresh-fits (desk (state-of roll votes (log-of (now (prevotes .entry)) (now (precommits .entry)) (now (proposals .entry)) valids)) (now (table .entry)))) ⌝ }
+fn fresh_fits(progress: Progress, log: &Log, table: &[u64]) -> bool
+    ensures { λ b. ⌜ ((roll : rolls.Roll) → b ≡ fresh-fits (desk (state-of roll progress (now (log .entry))) (now (table .entry)))) ⌝ }
 {
-    if !all_silent(prevotes, precommits, proposals) {
-        return false;
-    }
-    all_zero(table)
-        & (votes.stand.round.0 == 0)
-        & (votes.locked.next == 0)
-        & (votes.valid.next == 0)
+    all_unheard(log)
+        & all_zero(table)
+        & (progress.stand.round.0 == 0)
+        & (progress.locked.next.0 == 0)
+        & (progress.valid.next.0 == 0)
 }
 
 // The voting state and the table: once started, no rule may apply.
-pub fn desk_fits<'a>(
-    votes: Votes,
-    roll: Roll,
-    prevotes: &'a [u32; 16],
-    precommits: &'a [u32; 16],
-    proposals: &'a [u8; 16],
-    valids: &'a [u8; 16],
-    table: &[u64],
-) -> bool
-    ensures { λ b. ⌜ b ≡ desk-fits (desk (state-of roll votes (log-of (now (prevotes .entry)) (now (precommits .entry)) (now (proposals .entry)) (now (valids .entry)))) (now (table .entry))) ⌝ }
+pub fn desk_fits(progress: Progress, roll: Roll, log: &Log, table: &[u64]) -> bool
+    ensures { λ b. ⌜ b ≡ desk-fits (desk (state-of roll progress (now (log .entry))) (now (table .entry))) ⌝ }
 {
-    let phase = votes.phase;
-    let stand = votes.stand;
+    let phase = progress.phase;
+    let r = progress.stand.round;
     if !roll.fits() {
         return false;
     }
     if !roll.own_fits() {
         return false;
     }
-    if table.len() != 1040 {
+    if table.len() != State::TABLE {
         return false;
     }
-    if 16 <= stand.round.0 {
+    if State::ROUNDS <= (r.0 as usize) {
         return false;
     }
-    if 16 <= settled_round(phase) {
+    if State::ROUNDS <= (settled_round(phase) as usize) {
         return false;
     }
-    if !rounds_fit(roll.kiosks, prevotes, precommits, proposals, valids, table) {
+    if !(marks_fit(roll.kiosks, log) & proposals_fit(log, table)) {
         return false;
     }
-    let r = stand.round;
-    if !(held_fits(r, votes.locked) & held_fits(r, votes.valid)) {
+    if !(held_fits(r, progress.locked) & held_fits(r, progress.valid)) {
         return false;
     }
     if is_fresh(phase) {
-        return fresh_fits(votes, prevotes, precommits, proposals, table);
+        return fresh_fits(progress, log, table);
     }
     let total = roll.total();
-    !is_rule(first_rule(
-        votes,
-        roll,
-        prevotes,
-        precommits,
-        proposals,
-        valids,
-        table,
-        total,
-    ))
+    !is_rule(first_rule(progress, roll, log, table, total))
 }

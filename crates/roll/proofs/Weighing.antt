@@ -1,17 +1,19 @@
 -- Laws of weighing, over any test of the seats. Assumes nothing.
 use Prim.Native.Nat.{ℕ, zero, suc, _+_, _*_, _-_, _≤_, _<_}
 use mathlib.Core.Path.{_≡_, refl, ap, _∙_}
-use mathlib.Core.Bool.{Bool, true, false, _&&_, false≢true}
+use mathlib.Core.Bool.{Bool, true, false, _&&_, _||_, false≢true}
 use mathlib.Core.List.{List}
 use native.Mathlib.Numerals.{add-one}
 use native.Mathlib.Omega.{arith}
-use borrow.Author.Tests.{ltb-false, le-ltb, le-leb, lt-leb, leb-true}
-use lib.Dec.{leb}
+use borrow.Author.Tests.{eqb-true, eq-eqb, ne-eqb, ltb-false, le-ltb, le-leb, lt-leb, leb-true}
+use lib.Dec.{eqb, leb}
 use lib.ListN.{getD, drop, replicate}
 use Rattle.words.specs.Choice.{if_then_else_, all-below}
+use Rattle.words.specs.Marks.{marked, mark}
 use Rattle.words.proofs.Choice.{and-left, and-right}
+use Rattle.words.proofs.MarkLaws.{mark-seats}
 use Rattle.roll.specs.declared.Roll.{Roll}
-use Rattle.roll.specs.Weighing.{large, power-below, most-kiosks, total-of, roll-fits}
+use Rattle.roll.specs.Weighing.{large, power-below, names, most-kiosks, most-power, most-total, total-of, roll-fits}
 
 -- one seat more: b says whether it counts, and x is what it adds
 pub power-more : (ps : List ℕ) (f : ℕ → Bool) (k : ℕ) {s x : ℕ} {b : Bool} → s ≡ power-below ps f k → b ≡ f k
@@ -76,6 +78,34 @@ all-more f k e h = rw (add-one, e, h)
 pub all-passed : (f : ℕ → Bool) (k n : ℕ) {b : Bool} → b ≡ all-below k f → k ≤ n → n ≤ k → b ≡ all-below n f
 all-passed f k n e h l = let g : k ≡ n = omega arith in e ∙ ap (λ (i : ℕ). all-below i f) g
 
+-- ---- which seats are named
+
+pass-same : (e f l c : Bool) → (e ≡ true → c ≡ true) → ((e || f) || (l && c)) ≡ (f || ((e || l) && c))
+pass-same false f l c h = refl
+pass-same true true l c h = refl
+pass-same true false l c h = rw (h refl)
+
+pass-other : (e f l c : Bool) → (e ≡ true → c ≡ false) → (f || (l && c)) ≡ (f || ((e || l) && c))
+pass-other false f l c h = refl
+pass-other true f true c h = refl
+pass-other true f false c h = rw (h refl)
+
+-- seat i is passed: the marks m are its own, and those left after it
+module _ (table : List ℕ) (base name m left i : ℕ) (others : (j : ℕ) → marked m j ≡ (eqb i j || marked left j)) where
+  -- its cell holds the name: it is one of those found
+  pub name-same : (found : ℕ) → getD table (base + i) 0 ≡ name
+      → (j : ℕ) → (marked (mark found i) j || names left table base name j) ≡ (marked found j || names m table base name j)
+  name-same found same j =
+      rw (mark-seats found i j, others j)
+      (pass-same (eqb i j) (marked found j) (marked left j) (eqb (getD table (base + j) 0) name) (λ e. rw (← eqb-true i j e) (eq-eqb _ _ same)))
+
+  -- its cell holds another
+  pub name-other : (found : ℕ) → (getD table (base + i) 0 ≡ name → ⊥)
+      → (j : ℕ) → (marked found j || names left table base name j) ≡ (marked found j || names m table base name j)
+  name-other found differs j =
+      rw (others j)
+      (pass-other (eqb i j) (marked found j) (marked left j) (eqb (getD table (base + j) 0) name) (λ e. rw (← eqb-true i j e) (ne-eqb _ _ differs)))
+
 -- ---- what a roll may be
 
 module _ (r : Roll) where
@@ -88,7 +118,7 @@ module _ (r : Roll) where
   fits-not-many h = rw (le-leb 1 (r .kiosks) (omega arith), lt-leb (r .kiosks) 32 h)
 
   pub fits-else : 1 ≤ r .kiosks → r .kiosks ≤ 32
-      → roll-fits r ≡ (all-below (r .kiosks) (λ i. leb (getD (r .powers) i 0) 1000) && leb 1 (total-of r) && leb (total-of r) 32000)
+      → roll-fits r ≡ (all-below (r .kiosks) (λ i. leb (getD (r .powers) i 0) most-power) && leb 1 (total-of r) && leb (total-of r) most-total)
   unfolding roll-fits
   fits-else h l = rw (le-leb 1 (r .kiosks) h, le-leb (r .kiosks) 32 l)
 
@@ -98,9 +128,9 @@ module _ (r : Roll) where
   fits-count e =
       let a = leb 1 (r .kiosks) in
       let b = leb (r .kiosks) most-kiosks in
-      let c = all-below (r .kiosks) (λ i. leb (getD (r .powers) i 0) 1000) in
+      let c = all-below (r .kiosks) (λ i. leb (getD (r .powers) i 0) most-power) in
       let d = leb 1 (total-of r) in
-      let ab = and-left (a && b) c (and-left (a && b && c) d (and-left (a && b && c && d) (leb (total-of r) 32000) e)) in
+      let ab = and-left (a && b) c (and-left (a && b && c) d (and-left (a && b && c && d) (leb (total-of r) most-total) e)) in
       (leb-true 1 (r .kiosks) (and-left a b ab), leb-true (r .kiosks) most-kiosks (and-right a b ab))
 
 abbrev zeros : ℕ → List ℕ

@@ -4,9 +4,10 @@ use Prim.Native.Nat.{ℕ, zero, suc, _+_, _*_, _-_, _%_}
 use mathlib.Core.Bool.{Bool, true, _&&_}
 use mathlib.Core.List.{List, _++_}
 use lib.ListN.{getD, length, replicate}
-use lib.Dec.{ltb, leb}
+use lib.Dec.{ltb, leb, eqb}
 use Rattle.roll.specs.declared.Roll.{Roll}
 use Rattle.words.specs.Choice.{if_then_else_, all-below}
+use Rattle.words.specs.Marks.{marked}
 
 -- "a set with power P is large when 3P > 2T and some when 3P > T"
 abbrev pub large : ℕ → ℕ → Bool
@@ -19,6 +20,10 @@ some total power = ltb total (3 * power)
 unfoldable pub power-below : List ℕ → (ℕ → Bool) → ℕ → ℕ
 power-below powers counts zero = zero
 power-below powers counts (suc i) = power-below powers counts i + (if counts i then getD powers i 0 else 0)
+
+-- seat i is marked, and its cell of the table, the first at `base`, holds the name
+abbrev pub names : ℕ → List ℕ → ℕ → ℕ → ℕ → Bool
+names marks table base name i = marked marks i && eqb (getD table (base + i) 0) name
 
 -- the power of the seats on the roll that the test counts
 abbrev pub power-of : Roll → (ℕ → Bool) → ℕ
@@ -36,13 +41,19 @@ proposer roll r = (roll .height .0 + r) % roll .kiosks
 abbrev pub most-kiosks : ℕ
 most-kiosks = 32
 
+abbrev pub most-power : ℕ
+most-power = 1000
+
+abbrev pub most-total : ℕ
+most-total = 32000
+
 unfoldable pub roll-fits : Roll → Bool
 roll-fits roll =
     leb 1 (roll .kiosks) &&
     leb (roll .kiosks) most-kiosks &&
-    all-below (roll .kiosks) (λ i. leb (getD (roll .powers) i 0) 1000) &&
+    all-below (roll .kiosks) (λ i. leb (getD (roll .powers) i 0) most-power) &&
     leb 1 (total-of roll) &&
-    leb (total-of roll) 32000
+    leb (total-of roll) most-total
 
 -- the own number is on the roll
 abbrev pub own-fits : Roll → Bool

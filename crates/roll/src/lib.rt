@@ -8,6 +8,9 @@ pub struct Round(pub u8);
 
 pub struct Power(pub u32);
 
+// A round plus one; 0 is none, 003's -1.
+pub struct PlusOne(pub u8);
+
 // The kiosks of a journal: the first `kiosks` of `powers` count. `own` is the seat of the kiosk whose journal it is.
 pub struct Roll {
     pub kiosks: usize,

@@ -3,15 +3,19 @@ use crate::Height;
 use crate::Power;
 use crate::Roll;
 use crate::Round;
+use words::marks::EVERY;
 use words::marks::is_marked;
-ghost use Prim.Native.Nat.{_+_, _<_, _≤_};
+use words::marks::lowest;
+use words::marks::with_mark;
+use words::marks::without_lowest;
+ghost use Prim.Native.Nat.{ℕ, _+_, _<_, _≤_};
 ghost use mathlib.Core.Path.{_≡_};
 ghost use mathlib.Core.Bool.{_&&_};
 ghost use lib.Dec.{eqb, leb};
 ghost use lib.ListN.{length, getD};
 ghost use Rattle.words.specs.Choice.{if_then_else_, all-below};
 ghost use Rattle.words.specs.Marks.{marked};
-ghost use Rattle.roll.specs.Weighing.{large, some, power-below, total-of, proposer, roll-fits, own-fits, roll-with};
+ghost use Rattle.roll.specs.Weighing.{large, some, power-below, total-of, proposer, names, most-power, roll-fits, own-fits, roll-with};
 
 impl Power {
     // More than two thirds of the total.
@@ -37,15 +41,21 @@ fn counted(power: u16, counts: bool) -> u32
     if counts { power as u32 } else { 0 }
 }
 
-// Whether the seat is marked and its cell of the table holds the name. A seat that is not marked costs no look at the table.
-fn is_named(marks: u32, seat: usize, table: &[u64], cell: usize, name: u64) -> bool
-    requires { ⌜ (seat < 32) × (cell < length (now table)) ⌝ }
-    ensures { λ r. ⌜ r ≡ (marked marks seat && eqb (getD (now (table .entry)) cell 0) name) ⌝ }
+// Of the seats marked, the marks of those whose cell, from `base` on, holds the name. No other cell is looked at.
+fn named(marks: u32, table: &[u64], base: usize, name: u64) -> u32
+    requires { ⌜ base + 32 ≤ length (now table) ⌝ }
+    ensures { λ r. ⌜ ((i : ℕ) → marked r i ≡ names marks (now (table .entry)) base name i) ⌝ }
 {
-    if !is_marked(marks, seat) {
-        return false;
+    let mut found: u32 = 0;
+    let mut rest = marks;
+    while rest != 0 {
+        let i = lowest(rest);
+        if table[base + i] == name {
+            found = with_mark(found, i);
+        }
+        rest = without_lowest(rest);
     }
-    table[cell] == name
+    found
 }
 
 // The power of the seats marked.
@@ -77,13 +87,7 @@ pub fn weigh_named(
     requires { ⌜ (kiosks ≤ 32) × (base + 32 ≤ length (now table)) ⌝ }
     ensures { λ r. ⌜ r .0 ≡ power-below (now (powers .entry)) (λ i. marked marks i && eqb (getD (now (table .entry)) (base + i) 0) name) kiosks ⌝ }
 {
-    let mut sum: u32 = 0;
-    let mut i: usize = 0;
-    while i < kiosks {
-        sum += counted(powers[i], is_named(marks, i, table, base + i, name));
-        i += 1;
-    }
-    Power(sum)
+    weigh(powers, kiosks, named(marks, table, base, name))
 }
 
 // Whether the seats marked whose cell holds the name are large. The names are read only where all the seats marked are.
@@ -106,21 +110,19 @@ pub fn is_large_named(
 }
 
 impl Roll {
-    // 01: at most 32 kiosks.
+    // 01: at most 32 kiosks, of power 1,000 each, 32,000 together.
     pub const MOST: usize = 32;
+
+    pub const MOST_POWER: u16 = 1000;
+
+    pub const MOST_TOTAL: u32 = 32000;
 
     // The power of all the kiosks.
     pub fn total(self) -> Power
         requires { ⌜ self .kiosks ≤ 32 ⌝ }
         ensures { λ r. ⌜ r .0 ≡ total-of self ⌝ }
     {
-        let mut sum: u32 = 0;
-        let mut i: usize = 0;
-        while i < self.kiosks {
-            sum += counted(self.powers[i], true);
-            i += 1;
-        }
-        Power(sum)
+        weigh(&self.powers, self.kiosks, EVERY)
     }
 
     // Whose turn a round is.
@@ -133,12 +135,12 @@ impl Roll {
 
     fn powers_fit(self) -> bool
         requires { ⌜ self .kiosks ≤ 32 ⌝ }
-        ensures { λ r. ⌜ r ≡ all-below (self .kiosks) (λ i. leb (getD (self .powers) i 0) 1000) ⌝ }
+        ensures { λ r. ⌜ r ≡ all-below (self .kiosks) (λ i. leb (getD (self .powers) i 0) most-power) ⌝ }
     {
         let mut fit = true;
         let mut i: usize = 0;
         while i < self.kiosks {
-            fit = fit & (self.powers[i] <= 1000);
+            fit = fit & (self.powers[i] <= Roll::MOST_POWER);
             i += 1;
         }
         fit
@@ -155,7 +157,7 @@ impl Roll {
             return false;
         }
         let total = self.total();
-        self.powers_fit() & (1 <= total.0) & (total.0 <= 32000)
+        self.powers_fit() & (1 <= total.0) & (total.0 <= Roll::MOST_TOTAL)
     }
 
     // Whether the own number is on the roll.

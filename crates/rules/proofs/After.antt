@@ -12,7 +12,7 @@ use Rattle.rules.specs.Log.{Desk, desk, the-log}
 use Rattle.rules.specs.Doing.{the-doing}
 use Rattle.rules.specs.Rules.{the-rules}
 use Rattle.rules.specs.Work.{worked, the-work}
-use Rattle.rules.proofs.Whole.{spread}
+use Rattle.rules.proofs.Whole.{spread, woven}
 use Rattle.rules.proofs.Stories.{Story, stories}
 
 -- each call begins with the state and the table that the last left, and no outputs
@@ -29,5 +29,5 @@ abbrev pub says : Story → List Output × State × List ℕ
 says s = (s .sends, s .after, s .table-after)
 
 pub stories-end-so : map leaves stories ≡ map says stories
-unfolding the-choices the-weighing the-log the-doing the-rules the-work spread stories told leaves
+unfolding the-choices the-weighing the-log the-doing the-rules the-work spread woven stories told leaves
 stories-end-so = refl

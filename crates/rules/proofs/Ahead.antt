@@ -7,12 +7,9 @@ use native.Mathlib.Omega.{arith}
 use lib.Dec.{ltb}
 use borrow.Author.Tests.{lt-ltb, ltb-true, leb-false}
 use Rattle.words.proofs.Choice.{and-false, highest-none, highest-above}
-use Rattle.rules.specs.declared.Heard.{Heard}
-use Rattle.rules.specs.declared.Log.{Log}
-use Rattle.rules.specs.Log.{Desk, told, tell, heard, message-power}
+use Rattle.rules.specs.Log.{Desk, heard, message-power}
 use Rattle.rules.specs.Doing.{current}
 use Rattle.rules.specs.Rules.{is-some, calls, past-calling-round, applies-55}
-use Rattle.rules.proofs.Hearing.{told-other}
 
 -- the desk u is in round r; of the rounds above r it has heard what d has, and it has as many rounds and the same roll
 pub record Ahead (r : ℕ) (d u : Desk) : Type 0 where
@@ -21,18 +18,14 @@ pub record Ahead (r : ℕ) (d u : Desk) : Type 0 where
   pub round : current u ≡ r
   pub above : (q : ℕ) → r < q → heard u q ≡ heard d q
 
--- what is put in the log of a round changes no round above
-pub same-above : (l : Log) (r : ℕ) (h : Heard) {q : ℕ} → r < q → told (tell l r h) q ≡ told l q
-same-above l r h {q} less = told-other l r h (λ e. omega arith)
-
 -- no round above r has messages of some power
-abbrev pub Silent : ℕ → Desk → Type 0
-Silent r d = (q : ℕ) → r < q → q < d .rounds → is-some d (message-power d q) ≡ false
+abbrev pub Uncalled : ℕ → Desk → Type 0
+Uncalled r d = (q : ℕ) → r < q → q < d .rounds → is-some d (message-power d q) ≡ false
 
 -- so above a round that is not before the current one, where no round above it calls
-pub silent : (r : ℕ) (d : Desk) → current d ≤ r → past-calling-round d ≤ suc r → Silent r d
+pub uncalled : (r : ℕ) (d : Desk) → current d ≤ r → past-calling-round d ≤ suc r → Uncalled r d
 unfolding past-calling-round calls
-silent r d low high q more less =
+uncalled r d low high q more less =
     let off = highest-above (d .rounds) (λ x. calls d x) q (omega arith) less in
     rw (lt-ltb (current d) q (omega arith)) at off
 
@@ -41,10 +34,10 @@ pub none-calls : (d : Desk) → applies-55 d ≡ false → past-calling-round d 
 unfolding applies-55
 none-calls d e = let z = leb-false 1 (past-calling-round d) e in omega arith
 
--- where the rounds ahead are silent, rule 55 does not apply
-pub silent-ahead : {r : ℕ} {d u : Desk} → Ahead r d u → Silent r d → applies-55 u ≡ false
+-- where no round ahead calls, rule 55 does not apply
+pub uncalled-ahead : {r : ℕ} {d u : Desk} → Ahead r d u → Uncalled r d → applies-55 u ≡ false
 unfolding applies-55 past-calling-round calls message-power
-silent-ahead {r} {d} {u} a s =
+uncalled-ahead {r} {d} {u} a s =
     let off : past-calling-round u ≡ 0 = highest-none (u .rounds) (λ q. calls u q) (λ q less.
     and-false (ltb (current u) q) (is-some u (message-power u q)) (λ t.
     let more : r < q = rw (a .round) at (ltb-true (current u) q t) in

@@ -11,10 +11,12 @@ use borrow.Author.Tests.{eqb-true, eqb-false, leb-true, ltb-true, not-true}
 use Rattle.words.specs.Members.{In}
 use Rattle.words.proofs.Choice.{by-test, and-left, and-right, or-case, first-passes, lowest-passes, highest-passes}
 use Rattle.words.proofs.Members.{first-in}
+use Rattle.rules.specs.declared.Step.the-variants.{Prevote, Precommit}
+use Rattle.rules.specs.declared.Votes.the-variants.{Prevotes, Precommits}
 use Rattle.rules.specs.declared.State.{State}
 use Rattle.rules.specs.State.{is-propose, is-prevote, spoken, good, held, with-stand, with-locked, with-valid, with-backed}
-use Rattle.rules.specs.Log.{Desk, with-state, heard, proposed, good-sheets, prevote-power, prevote-power-for, precommit-power, precommit-power-for, message-power}
-use Rattle.rules.specs.Doing.{current, step, prevote, precommit, ask-prevote, ask-precommit, start-round}
+use Rattle.rules.specs.Log.{Desk, with-state, heard, proposed, good-sheets, power, power-for, message-power}
+use Rattle.rules.specs.Doing.{current, step, vote, ask, start-round}
 use Rattle.rules.specs.Rules.{is-large, is-some, applies-22, applies-28, applies-34, applies-36, applies-44, applies-47, applies-49, applies-55}
 use Rattle.rules.specs.Rules.{backed-sheet, closing-sheet, closing-round, calls, past-calling-round, first-rule, is-rule, vote-22, vote-28, fire-36, fire-49, fire}
 use Rattle.rules.specs.Work.{fire-all}
@@ -24,30 +26,30 @@ use Rattle.rules.proofs.ByRule.{Runs, by-rule}
 
 -- why a name is prevoted: nil; or the round's proposal, heard good, where the lock allows it, with valid round -1 (line 23) or with one
 -- whose large prevotes back it (line 29)
-pub data Prevotes (d : Desk) (name : ℕ) : Type 0 where
-  nil : name ≡ 0 → Prevotes d name
+pub data Why-prevote (d : Desk) (name : ℕ) : Type 0 where
+  nil : name ≡ 0 → Why-prevote d name
   afresh :
       good (heard d (current d)) ≡ true →
       name ≡ proposed d (current d) →
       heard d (current d) .valid ≡ 0 →
-      (d .state .locked .next ≡ 0) ⊎ (d .state .locked .name ≡ name) →
-      Prevotes d name
+      (d .state .progress .locked .next .0 ≡ 0) ⊎ (d .state .progress .locked .name ≡ name) →
+      Why-prevote d name
   again :
       (vr : ℕ) →
       good (heard d (current d)) ≡ true →
       name ≡ proposed d (current d) →
       heard d (current d) .valid ≡ suc vr →
       vr < current d →
-      is-large d (prevote-power-for d vr name) ≡ true →
-      (d .state .locked .next ≤ suc vr) ⊎ (d .state .locked .name ≡ name) →
-      Prevotes d name
+      is-large d (power-for Prevotes d vr name) ≡ true →
+      (d .state .progress .locked .next .0 ≤ suc vr) ⊎ (d .state .progress .locked .name ≡ name) →
+      Why-prevote d name
 
 -- line 36: a sheet of the round that large prevotes back, for the first time
 pub record Backs (d : Desk) (name : ℕ) : Type 0 where
   pub some : name ≡ 0 → ⊥
   pub sheet : In name (good-sheets d (current d))
-  pub large : is-large d (prevote-power-for d (current d) name) ≡ true
-  pub first : d .state .stand .backed ≡ false
+  pub large : is-large d (power-for Prevotes d (current d) name) ≡ true
+  pub first : d .state .progress .stand .backed ≡ false
 
 -- a sheet that 36 or 49 names is its round's proposal
 pub sole : (d : Desk) (r name : ℕ) → In name (good-sheets d r) → name ≡ proposed d r
@@ -59,37 +61,37 @@ pub record Closes (d : Desk) (r name : ℕ) : Type 0 where
   pub there : r < d .rounds
   pub some : name ≡ 0 → ⊥
   pub sheet : In name (good-sheets d r)
-  pub large : is-large d (precommit-power-for d r name) ≡ true
+  pub large : is-large d (power-for Precommits d r name) ≡ true
 
 -- ## Deeds
 
 -- lines 42 and 43: the state that holds the sheet as valid
 abbrev pub holding : ℕ → Desk → State
-holding name d = with-valid (held (current d) name) (with-stand (with-backed (d .state .stand)) (d .state))
+holding name d = with-valid (held (current d) name) (with-stand (with-backed (d .state .progress .stand)) (d .state))
 
 pub data Deed (offer : ℕ) (d u : Desk) : Type 0 where
   -- lines 24, 26, 30, 32 and 59
-  prevotes : (name : ℕ) → is-propose (step d) ≡ true → Prevotes d name → u ≡ prevote name d → Deed offer d u
+  prevotes : (name : ℕ) → is-propose (step d) ≡ true → Why-prevote d name → u ≡ vote Prevotes name d → Deed offer d u
   -- lines 45 and 63
-  precommits-nil : is-prevote (step d) ≡ true → u ≡ precommit 0 d → Deed offer d u
+  precommits-nil : is-prevote (step d) ≡ true → u ≡ vote Precommits 0 d → Deed offer d u
   -- lines 38 to 43
   locks :
       (name : ℕ) →
       is-prevote (step d) ≡ true →
       Backs d name →
-      u ≡ precommit name (with-state (with-locked (held (current d) name) (holding name d)) d) →
+      u ≡ vote Precommits name (with-state (with-locked (held (current d) name) (holding name d)) d) →
       Deed offer d u
   -- lines 42 and 43 alone
   holds : (name : ℕ) → is-propose (step d) ≡ false → is-prevote (step d) ≡ false → Backs d name → u ≡ with-state (holding name d) d → Deed offer d u
   -- lines 35 and 48
   asks-prevote :
       is-prevote (step d) ≡ true →
-      d .state .stand .asked .prevote ≡ false →
-      is-large d (prevote-power d (current d)) ≡ true →
-      u ≡ ask-prevote d →
+      d .state .progress .stand .asked .prevote ≡ false →
+      is-large d (power Prevotes d (current d)) ≡ true →
+      u ≡ ask Prevote d →
       Deed offer d u
   asks-precommit :
-      d .state .stand .asked .precommit ≡ false → is-large d (precommit-power d (current d)) ≡ true → u ≡ ask-precommit d → Deed offer d u
+      d .state .progress .stand .asked .precommit ≡ false → is-large d (power Precommits d (current d)) ≡ true → u ≡ ask Precommit d → Deed offer d u
   -- line 51
   settles : (r name : ℕ) → Closes d r name → u ≡ fire-49 r name d → Deed offer d u
   -- lines 56 and 67
@@ -98,7 +100,7 @@ pub data Deed (offer : ℕ) (d u : Desk) : Type 0 where
 -- ## Every rule that applies does a deed
 
 module _ (offer : ℕ) (d : Desk) where
-  does-22 : applies-22 d ≡ true → Deed offer d (prevote (vote-22 d) d)
+  does-22 : applies-22 d ≡ true → Deed offer d (vote Prevotes (vote-22 d) d)
   unfolding applies-22 vote-22
   does-22 a =
       let r = current d in
@@ -106,17 +108,17 @@ module _ (offer : ℕ) (d : Desk) where
       let p = is-propose (step d) in
       let b = eqb (h .valid) 0 in
       let ps = and-left (p && spoken h) b a in
-      let x = eqb (d .state .locked .next) 0 in
-      let y = eqb (d .state .locked .name) (proposed d r) in
-      by-test (λ (name : ℕ). Deed offer d (prevote name d)) (good h && (x || y))
+      let x = eqb (d .state .progress .locked .next .0) 0 in
+      let y = eqb (d .state .progress .locked .name) (proposed d r) in
+      by-test (λ (name : ℕ). Deed offer d (vote Prevotes name d)) (good h && (x || y))
       (λ t.
       prevotes _ (and-left p (spoken h) ps)
       (afresh (and-left (good h) (x || y) t) refl (eqb-true (h .valid) 0 (and-right (p && spoken h) b a))
-      (⊎-elim (λ e. inl (eqb-true (d .state .locked .next) 0 e)) (λ e. inr (eqb-true (d .state .locked .name) (proposed d r) e)) (or-case x y (and-right (good h) (x || y) t))))
+      (⊎-elim (λ e. inl (eqb-true (d .state .progress .locked .next .0) 0 e)) (λ e. inr (eqb-true (d .state .progress .locked .name) (proposed d r) e)) (or-case x y (and-right (good h) (x || y) t))))
       refl)
       (λ t. prevotes 0 (and-left p (spoken h) ps) (nil refl) refl)
 
-  does-28 : applies-28 d ≡ true → Deed offer d (prevote (vote-28 d) d)
+  does-28 : applies-28 d ≡ true → Deed offer d (vote Prevotes (vote-28 d) d)
   unfolding applies-28 vote-28
   does-28 a =
       let r = current d in
@@ -126,64 +128,64 @@ module _ (offer : ℕ) (d : Desk) where
       let s = spoken h in
       let b = leb 1 (h .valid) in
       let c = leb (h .valid) r in
-      let big = is-large d (prevote-power-for d (pred (h .valid)) w) in
+      let big = is-large d (power-for Prevotes d (pred (h .valid)) w) in
       let a4 = and-left (p && s && b && c) big a in
       let a3 = and-left (p && s && b) c a4 in
       let a2 = and-left (p && s) b a3 in
       let low = leb-true 1 (h .valid) (and-right (p && s) b a3) in
       let high = leb-true (h .valid) r (and-right (p && s && b) c a4) in
-      let x = leb (d .state .locked .next) (h .valid) in
-      let y = eqb (d .state .locked .name) w in
-      by-test (λ (name : ℕ). Deed offer d (prevote name d)) (good h && (x || y))
+      let x = leb (d .state .progress .locked .next .0) (h .valid) in
+      let y = eqb (d .state .progress .locked .name) w in
+      by-test (λ (name : ℕ). Deed offer d (vote Prevotes name d)) (good h && (x || y))
       (λ t.
       prevotes w (and-left p s a2)
       (again (pred (h .valid)) (and-left (good h) (x || y) t) refl (omega (arith, low)) (omega (arith, low, high)) (and-right (p && s && b && c) big a)
       (⊎-elim
-      (λ e. let z = leb-true (d .state .locked .next) (h .valid) e in inl (omega (arith, low)))
-      (λ e. inr (eqb-true (d .state .locked .name) w e))
+      (λ e. let z = leb-true (d .state .progress .locked .next .0) (h .valid) e in inl (omega (arith, low)))
+      (λ e. inr (eqb-true (d .state .progress .locked .name) w e))
       (or-case x y (and-right (good h) (x || y) t))))
       refl)
       (λ t. prevotes 0 (and-left p s a2) (nil refl) refl)
 
-  does-34 : applies-34 d ≡ true → Deed offer d (ask-prevote d)
+  does-34 : applies-34 d ≡ true → Deed offer d (ask Prevote d)
   unfolding applies-34
   does-34 e =
       let a = is-prevote (step d) in
-      let b = not (d .state .stand .asked .prevote) in
-      let c = is-large d (prevote-power d (current d)) in
+      let b = not (d .state .progress .stand .asked .prevote) in
+      let c = is-large d (power Prevotes d (current d)) in
       let ab = and-left (a && b) c e in
-      asks-prevote (and-left a b ab) (not-true (d .state .stand .asked .prevote) (and-right a b ab)) (and-right (a && b) c e) refl
+      asks-prevote (and-left a b ab) (not-true (d .state .progress .stand .asked .prevote) (and-right a b ab)) (and-right (a && b) c e) refl
 
-  backs-36 : (backed-sheet d ≡ 0 → ⊥) → d .state .stand .backed ≡ false → Backs d (backed-sheet d)
+  backs-36 : (backed-sheet d ≡ 0 → ⊥) → d .state .progress .stand .backed ≡ false → Backs d (backed-sheet d)
   unfolding backed-sheet
   backs-36 some first =
       let r = current d in
-      let large : ℕ → Bool = λ name. is-large d (prevote-power-for d r name) in
+      let large : ℕ → Bool = λ name. is-large d (power-for Prevotes d r name) in
       record { some = some; sheet = first-in (good-sheets d r) large some; large = first-passes (good-sheets d r) large some; first = first }
 
   does-36 : applies-36 d ≡ true → Deed offer d (fire-36 (backed-sheet d) d)
   unfolding applies-36 fire-36
   does-36 e =
       let a = not (is-propose (step d)) in
-      let b = not (d .state .stand .backed) in
+      let b = not (d .state .progress .stand .backed) in
       let z = eqb (backed-sheet d) 0 in
       let ab = and-left (a && b) (not z) e in
       let some = eqb-false (backed-sheet d) 0 (not-true z (and-right (a && b) (not z) e)) in
-      let found = backs-36 some (not-true (d .state .stand .backed) (and-right a b ab)) in
+      let found = backs-36 some (not-true (d .state .progress .stand .backed) (and-right a b ab)) in
       by-test (Deed offer d) (is-prevote (step d))
       (λ t. locks (backed-sheet d) t found refl)
       (λ t. holds (backed-sheet d) (not-true (is-propose (step d)) (and-left a b ab)) t found refl)
 
-  does-47 : applies-47 d ≡ true → Deed offer d (ask-precommit d)
+  does-47 : applies-47 d ≡ true → Deed offer d (ask Precommit d)
   unfolding applies-47
   does-47 e =
-      let a = not (d .state .stand .asked .precommit) in
-      let b = is-large d (precommit-power d (current d)) in
-      asks-precommit (not-true (d .state .stand .asked .precommit) (and-left a b e)) (and-right a b e) refl
+      let a = not (d .state .progress .stand .asked .precommit) in
+      let b = is-large d (power Precommits d (current d)) in
+      asks-precommit (not-true (d .state .progress .stand .asked .precommit) (and-left a b e)) (and-right a b e) refl
 
-  does-44 : applies-44 d ≡ true → Deed offer d (precommit 0 d)
+  does-44 : applies-44 d ≡ true → Deed offer d (vote Precommits 0 d)
   unfolding applies-44
-  does-44 e = precommits-nil (and-left (is-prevote (step d)) (is-large d (prevote-power-for d (current d) 0)) e) refl
+  does-44 e = precommits-nil (and-left (is-prevote (step d)) (is-large d (power-for Prevotes d (current d) 0)) e) refl
 
   does-49 : applies-49 d ≡ true → Deed offer d (fire-49 (closing-round d) (closing-sheet d (closing-round d)) d)
   unfolding applies-49 closing-round closing-sheet
@@ -191,7 +193,7 @@ module _ (offer : ℕ) (d : Desk) where
       let r = closing-round d in
       let less = ltb-true (closing-round d) (d .rounds) e in
       let some = eqb-false (closing-sheet d r) 0 (not-true (eqb (closing-sheet d r) 0) (lowest-passes (d .rounds) (λ q. not (eqb (closing-sheet d q) 0)) less)) in
-      let large : ℕ → Bool = λ name. is-large d (precommit-power-for d r name) in
+      let large : ℕ → Bool = λ name. is-large d (power-for Precommits d r name) in
       settles r (closing-sheet d r) (record { there = less; some = some; sheet = first-in (good-sheets d r) large some; large = first-passes (good-sheets d r) large some }) refl
 
   does-55 : applies-55 d ≡ true → Deed offer d (start-round offer (pred (past-calling-round d)) d)
@@ -206,15 +208,15 @@ module _ (offer : ℕ) (d : Desk) where
   fires =
       by-rule (λ rule. is-rule rule ≡ true → Runs d × Deed offer d (fire rule offer d)) d
       (λ stopped t. absurd (false≢true t))
-      (λ run quiet n49 n55 t. absurd (false≢true t))
+      (λ run idle n49 n55 t. absurd (false≢true t))
       (λ run e t. (run, does-22 e))
       (λ run e t. (run, does-28 e))
       (λ run e t. (run, does-34 e))
       (λ run e t. (run, does-36 e))
       (λ run e t. (run, does-44 e))
       (λ run e t. (run, does-47 e))
-      (λ run quiet e t. (run, does-49 e))
-      (λ run quiet n49 e t. (run, does-55 e))
+      (λ run idle e t. (run, does-49 e))
+      (λ run idle n49 e t. (run, does-55 e))
 
 -- ## What each deed keeps
 

@@ -13,13 +13,13 @@ use Rattle.rules.specs.Rules.{first-rule, is-rule, fire}
 use Rattle.rules.specs.Work.{take-in, fire-all, most-firings, worked}
 use Rattle.rules.proofs.ByRule.{not-a-rule}
 use Rattle.rules.proofs.Same.{take-in-same}
-use Rattle.rules.specs.Room.{room, unless}
+use Rattle.rules.specs.contracts.Room.{room, unless}
 use Rattle.rules.proofs.Room.{room-most, unless-most, run-most}
 use Rattle.rules.proofs.Firing.{Within, within-49, by-firing}
 
 -- what is left to do: in this round, and in those after it
 abbrev left : Desk → ℕ
-left d = 8 * (d .rounds - current d) + room d + unless (d .state .stand .backed)
+left d = 8 * (d .rounds - current d) + room d + unless (d .state .progress .stand .backed)
 
 falls-within : {d u : Desk} → Within d u → left u < left d
 falls-within w = omega (arith, w .ahead .rounds, w .ahead .round, w .falls)
@@ -29,7 +29,7 @@ falls offer d =
     by-firing (λ u. left u < left d) offer d
     (λ run loud u w. falls-within w)
     (λ run r name. falls-within (within-49 r name d run))
-    (λ run low high u w. omega (arith, w .ahead .rounds, w .ahead .round, w .full, w .unbacked, run-most (d .state .phase)))
+    (λ run low high u w. omega (arith, w .ahead .rounds, w .ahead .round, w .full, w .unbacked, run-most (d .state .progress .phase)))
 
 -- with more firings than are left to do, no rule applies at the end
 ends : (n offer : ℕ) (d : Desk) → left d < n → first-rule (fire-all n offer d) ≡ Nothing
@@ -41,7 +41,7 @@ ends (suc n) offer d h =
     (λ e. not-a-rule (first-rule d) e)
 
 left-most : (d : Desk) → left d < most-firings (d .rounds)
-left-most d = omega (arith, room-most d, unless-most (d .state .stand .backed))
+left-most d = omega (arith, room-most d, unless-most (d .state .progress .stand .backed))
 
 -- whatever the desk and its number of rounds: once its firings are done, no rule applies
 pub call-ends : (offer : ℕ) (d : Desk) → first-rule (fire-all (most-firings (d .rounds)) offer d) ≡ Nothing

@@ -1,4 +1,4 @@
--- What a message leaves in the log and the table: its own place, and no other. Assumes nothing.
+-- What a message leaves in the log and the table: its own place, and no other. One law for both types of vote. Assumes nothing.
 use Prim.Native.Nat.{ℕ, _<_}
 use mathlib.Core.Path.{_≡_, refl, sym, ap, _∙_}
 use mathlib.Core.Logic.{_⊎_, inl, inr, ⊎-elim}
@@ -6,7 +6,7 @@ use mathlib.Core.List.{List}
 use mathlib.Core.Bool.{Bool, true, false, not, true≢false, false≢true}
 use native.Mathlib.Omega.{arith}
 use native.Mathlib.Decide.{ℕ-discrete}
-use lib.ListN.{length, getD, set, length-set}
+use lib.ListN.{length, getD, set}
 use lib.Seq.{getD-set-same, getD-set-other}
 use lib.Dec.{eqb}
 use borrow.Author.Tests.{eqb-true, eq-eqb}
@@ -14,209 +14,218 @@ use Rattle.words.specs.Choice.{if_then_else_}
 use Rattle.words.specs.Marks.{marked, mark}
 use Rattle.words.proofs.Choice.{by-cases, or-case, or-so}
 use Rattle.words.proofs.MarkLaws.{marked-zero, mark-seats}
-use Rattle.words.proofs.Places.{set-at, place-kept, set-back}
+use Rattle.words.proofs.Places.{set-at, place-kept}
 use Rattle.rules.specs.declared.Heard.{Heard}
-use Rattle.rules.specs.declared.Log.{Log}
-use Rattle.rules.specs.State.{spoken}
-use Rattle.rules.specs.Log.{Desk, proposal-place, prevote-place, precommit-place, told, tell, heard, proposed, prevoted, precommitted, hear-proposal, hear-prevote, hear-precommit}
+use Rattle.rules.specs.declared.Votes.{Votes}
+use Rattle.rules.specs.declared.Votes.the-variants.{Prevotes, Precommits}
+use Rattle.rules.specs.Kinds.{vote-out}
+use Rattle.rules.specs.State.{marks-at, proposal-at, valid-at, marks-of, spoken}
+use Rattle.rules.specs.Log.{Desk, proposal-place, vote-place, told, heard, proposed, voted, message, hear-proposal, hear-vote}
+use Rattle.rules.specs.Doing.{current, own, step-of, output, send, at-step, vote}
+use Rattle.rules.proofs.Telling.{Sized, marks-is, marks-apart, marks-proposal, marks-within, told-other, told-same, tell-marks, tell-proposal}
 
--- ## A log that is told of a round
+-- ## Places of the table
 
--- its lists have a place for each round
-pub record Sized (n : ℕ) (l : Log) : Type 0 where
-  pub prevotes : length (l .prevotes) ≡ n
-  pub precommits : length (l .precommits) ≡ n
-  pub proposals : length (l .proposals) ≡ n
-  pub valids : length (l .valids) ≡ n
+pub vote-apart : (v w : Votes) (r i q j : ℕ) → i < 32 → j < 32 → vote-place w q j ≡ vote-place v r i → (v ≡ w) × (q ≡ r) × (j ≡ i)
+vote-apart Prevotes Prevotes r i q j hi hj e = (refl, omega (arith, e), omega (arith, e))
+vote-apart Prevotes Precommits r i q j hi hj e = absurd (omega (arith, e))
+vote-apart Precommits Prevotes r i q j hi hj e = absurd (omega (arith, e))
+vote-apart Precommits Precommits r i q j hi hj e = (refl, omega (arith, e), omega (arith, e))
 
-pub sized-tell : (n : ℕ) (l : Log) (r : ℕ) (h : Heard) → Sized n l → Sized n (tell l r h)
-sized-tell n l r h s = record {
-  prevotes = length-set (l .prevotes) r (h .prevotes) ∙ s .prevotes;
-  precommits = length-set (l .precommits) r (h .precommits) ∙ s .precommits;
-  proposals = length-set (l .proposals) r (h .proposal) ∙ s .proposals;
-  valids = length-set (l .valids) r (h .valid) ∙ s .valids;
-}
+pub vote-proposal : (v : Votes) (r q i : ℕ) → i < 32 → vote-place v q i ≡ proposal-place r → ⊥
+vote-proposal Prevotes r q i hi e = omega (arith, e)
+vote-proposal Precommits r q i hi e = omega (arith, e)
 
--- what it says of that round, and of another
-pub told-same : (n : ℕ) (l : Log) → Sized n l → (r : ℕ) (h : Heard) → r < n → told (tell l r h) r ≡ h
-unfolding told
-told-same n l s r h less =
-    rw (
-      getD-set-same (l .prevotes) r (h .prevotes) 0 (omega (arith, s .prevotes)),
-      getD-set-same (l .precommits) r (h .precommits) 0 (omega (arith, s .precommits)),
-      getD-set-same (l .proposals) r (h .proposal) 0 (omega (arith, s .proposals)),
-      getD-set-same (l .valids) r (h .valid) 0 (omega (arith, s .valids)),
-    )
+pub vote-within : (v : Votes) (rounds r i : ℕ) → r < rounds → i < 32 → vote-place v r i < proposal-place rounds
+vote-within Prevotes rounds r i less hi = omega (arith, less, hi)
+vote-within Precommits rounds r i less hi = omega (arith, less, hi)
 
-pub told-other : (l : Log) (r : ℕ) (h : Heard) {q : ℕ} → (q ≡ r → ⊥) → told (tell l r h) q ≡ told l q
-unfolding told
-told-other l r h {q} off =
-    rw (getD-set-other (l .prevotes) r q (h .prevotes) 0 off, getD-set-other (l .precommits) r q (h .precommits) 0 off, getD-set-other (l .proposals) r q (h .proposal) 0 off, getD-set-other (l .valids) r q (h .valid) 0 off)
+-- ## A mark set in a list
 
--- ## A vote, whichever type: a mark of its round, and a name at its place
+module _ (l : List ℕ) (p i : ℕ) where
+  abbrev marked-at : List ℕ
+  marked-at = set l p (mark (getD l p 0) i)
 
--- one mark more is that vote's, or was there
-marks-more : (l : List ℕ) (r i q j : ℕ) → marked (getD (set l r (mark (getD l r 0) i)) q 0) j ≡ true →
-    ((q ≡ r) × (j ≡ i)) ⊎ (marked (getD l q 0) j ≡ true)
-marks-more l r i q j = go (ℕ-discrete q r)
-  where
-    go : Dec (q ≡ r) → marked (getD (set l r (mark (getD l r 0) i)) q 0) j ≡ true → ((q ≡ r) × (j ≡ i)) ⊎ (marked (getD l q 0) j ≡ true)
-    go (yes e) =
-        rw e
-        (set-at (λ x. marked x j ≡ true → ((r ≡ r) × (j ≡ i)) ⊎ (marked (getD l r 0) j ≡ true)) l r (mark (getD l r 0) i)
-        (λ t. ⊎-elim (λ s. inl (refl, sym (eqb-true i j s))) (λ s. inr s) (or-case (eqb i j) (marked (getD l r 0) j) (sym (mark-seats (getD l r 0) i j) ∙ t)))
-        (λ t. absurd (false≢true (sym (marked-zero j) ∙ t))))
-    go (no n) = λ t. inr (sym (ap (λ (x : ℕ). marked x j) (getD-set-other l r q (mark (getD l r 0) i) 0 n)) ∙ t)
-
--- that vote's is there
-pub mark-new : (l : List ℕ) (r i : ℕ) → r < length l → marked (getD (set l r (mark (getD l r 0) i)) r 0) i ≡ true
-mark-new l r i less =
-    ap (λ (x : ℕ). marked x i) (getD-set-same l r (mark (getD l r 0) i) 0 less)
-    ∙ mark-seats (getD l r 0) i i ∙ or-so (eqb i i) (marked (getD l r 0) i) (inl (eq-eqb i i refl))
-
--- and none is lost
-pub mark-kept : (l : List ℕ) (r i q j : ℕ) → marked (getD l q 0) j ≡ true → marked (getD (set l r (mark (getD l r 0) i)) q 0) j ≡ true
-mark-kept l r i q j =
-    place-kept (λ (x : ℕ). marked x j ≡ true) (λ x. mark x i) (λ x h. mark-seats x i j ∙ or-so (eqb i j) (marked x j) (inr h)) l r q
-
--- so a mark that is not there is not that vote's, and was not there
-marks-less : (l : List ℕ) (r i q j : ℕ) → r < length l → marked (getD (set l r (mark (getD l r 0) i)) q 0) j ≡ false →
-    ((q ≡ r) × (j ≡ i) → ⊥) × (marked (getD l q 0) j ≡ false)
-marks-less l r i q j less t = (
-  λ h. true≢false (sym (mark-new l r i less) ∙ (rw (h .0, h .1) at t)),
-  by-cases (marked (getD l q 0) j) (λ e. absurd (true≢false (sym (mark-kept l r i q j e) ∙ t))) (λ e. e),
-)
-
-module _ (place : ℕ → ℕ → ℕ) (apart : (r i q j : ℕ) → i < 32 → j < 32 → place q j ≡ place r i → (q ≡ r) × (j ≡ i))
-    (marks table : List ℕ) (r i name : ℕ) (hi : i < 32) (q j : ℕ) (hj : j < 32) where
-  abbrev after : List ℕ
-  after = set table (place r i) name
-
-  stays : ((q ≡ r) × (j ≡ i) → ⊥) → getD after (place q j) 0 ≡ getD table (place q j) 0
-  stays n = getD-set-other table (place r i) (place q j) name 0 (λ e. n (apart r i q j hi hj e))
-
-  -- a vote that is heard is that one, or was heard with the name that it has
-  vote-more : place r i < length table → marked (getD (set marks r (mark (getD marks r 0) i)) q 0) j ≡ true →
-      ((q ≡ r) × (j ≡ i) × (getD after (place q j) 0 ≡ name)) ⊎ ((marked (getD marks q 0) j ≡ true) × (getD after (place q j) 0 ≡ getD table (place q j) 0))
-  vote-more at t = go (ℕ-discrete q r) (ℕ-discrete j i)
+  -- one mark more is that one, or was there
+  marks-more : (q j : ℕ) → marked (getD marked-at q 0) j ≡ true → ((q ≡ p) × (j ≡ i)) ⊎ (marked (getD l q 0) j ≡ true)
+  marks-more q j = go (ℕ-discrete q p)
     where
-      old : ((q ≡ r) × (j ≡ i) → ⊥) → (marked (getD marks q 0) j ≡ true) × (getD after (place q j) 0 ≡ getD table (place q j) 0)
-      old n = (⊎-elim (λ h. absurd (n h)) (λ s. s) (marks-more marks r i q j t), stays n)
+      go : Dec (q ≡ p) → marked (getD marked-at q 0) j ≡ true → ((q ≡ p) × (j ≡ i)) ⊎ (marked (getD l q 0) j ≡ true)
+      go (yes e) =
+          rw e
+          (set-at (λ x. marked x j ≡ true → ((p ≡ p) × (j ≡ i)) ⊎ (marked (getD l p 0) j ≡ true)) l p (mark (getD l p 0) i)
+          (λ t. ⊎-elim (λ s. inl (refl, sym (eqb-true i j s))) (λ s. inr s) (or-case (eqb i j) (marked (getD l p 0) j) (sym (mark-seats (getD l p 0) i j) ∙ t)))
+          (λ t. absurd (false≢true (sym (marked-zero j) ∙ t))))
+      go (no n) = λ t. inr (sym (ap (λ (x : ℕ). marked x j) (getD-set-other l p q (mark (getD l p 0) i) 0 n)) ∙ t)
 
-      go : Dec (q ≡ r) → Dec (j ≡ i) →
-          ((q ≡ r) × (j ≡ i) × (getD after (place q j) 0 ≡ name)) ⊎ ((marked (getD marks q 0) j ≡ true) × (getD after (place q j) 0 ≡ getD table (place q j) 0))
-      go (yes e) (yes f) = inl (e, f, rw (e, f) (getD-set-same table (place r i) name 0 at))
-      go (yes e) (no n) = inr (old (λ h. n (h .1)))
-      go (no n) f = inr (old (λ h. n (h .0)))
+  -- that one is there
+  mark-set : p < length l → marked (getD marked-at p 0) i ≡ true
+  mark-set less =
+      ap (λ (x : ℕ). marked x i) (getD-set-same l p (mark (getD l p 0) i) 0 less)
+      ∙ mark-seats (getD l p 0) i i ∙ or-so (eqb i i) (marked (getD l p 0) i) (inl (eq-eqb i i refl))
 
-  -- one that is not heard was not, and its place holds what it held
-  vote-less : r < length marks → marked (getD (set marks r (mark (getD marks r 0) i)) q 0) j ≡ false →
-      (marked (getD marks q 0) j ≡ false) × (getD after (place q j) 0 ≡ getD table (place q j) 0)
-  vote-less less t = let m = marks-less marks r i q j less t in (m .1, stays (m .0))
+  -- and none is lost
+  mark-kept : (q j : ℕ) → marked (getD l q 0) j ≡ true → marked (getD marked-at q 0) j ≡ true
+  mark-kept q j =
+      place-kept (λ (x : ℕ). marked x j ≡ true) (λ x. mark x i) (λ x h. mark-seats x i j ∙ or-so (eqb i j) (marked x j) (inr h)) l p q
 
--- ## The three messages
-
-prevotes-apart : (r i q j : ℕ) → i < 32 → j < 32 → prevote-place q j ≡ prevote-place r i → (q ≡ r) × (j ≡ i)
-prevotes-apart r i q j hi hj e = (omega (arith, e), omega (arith, e))
-
-precommits-apart : (r i q j : ℕ) → i < 32 → j < 32 → precommit-place q j ≡ precommit-place r i → (q ≡ r) × (j ≡ i)
-precommits-apart r i q j hi hj e = (omega (arith, e), omega (arith, e))
-
-module _ (d : Desk) (r i name : ℕ) (hi : i < 32) where
-  -- a prevote changes no precommit and no proposal; and so a precommit
-  pub prevote-apart : (q j : ℕ) → j < 32 →
-      (heard (hear-prevote d r i name) q .precommits ≡ heard d q .precommits) × (precommitted (hear-prevote d r i name) q j ≡ precommitted d q j)
-  unfolding hear-prevote told
-  prevote-apart q j hj = (set-back (d .state .log .precommits) r q, getD-set-other (d .table) (prevote-place r i) (precommit-place q j) name 0 (λ e. omega (arith, e)))
-
-  pub prevote-keeps : (q : ℕ) →
-      (heard (hear-prevote d r i name) q .proposal ≡ heard d q .proposal) × (heard (hear-prevote d r i name) q .valid ≡ heard d q .valid) × (proposed (hear-prevote d r i name) q ≡ proposed d q)
-  unfolding hear-prevote told
-  prevote-keeps q = (
-    set-back (d .state .log .proposals) r q,
-    set-back (d .state .log .valids) r q,
-    getD-set-other (d .table) (prevote-place r i) (proposal-place q) name 0 (λ e. omega (arith, e)),
+  -- so a mark that is not there is not that one, and was not there
+  marks-less : p < length l → (q j : ℕ) → marked (getD marked-at q 0) j ≡ false → ((q ≡ p) × (j ≡ i) → ⊥) × (marked (getD l q 0) j ≡ false)
+  marks-less less q j t = (
+    λ h. true≢false (sym (mark-set less) ∙ (rw (h .0, h .1) at t)),
+    by-cases (marked (getD l q 0) j) (λ e. absurd (true≢false (sym (mark-kept q j e) ∙ t))) (λ e. e),
   )
 
-  pub precommit-apart : (q j : ℕ) → j < 32 →
-      (heard (hear-precommit d r i name) q .prevotes ≡ heard d q .prevotes) × (prevoted (hear-precommit d r i name) q j ≡ prevoted d q j)
-  unfolding hear-precommit told
-  precommit-apart q j hj = (set-back (d .state .log .prevotes) r q, getD-set-other (d .table) (precommit-place r i) (prevote-place q j) name 0 (λ e. omega (arith, e)))
+-- ## A vote
 
-  pub precommit-keeps : (q : ℕ) →
-      (heard (hear-precommit d r i name) q .proposal ≡ heard d q .proposal) × (heard (hear-precommit d r i name) q .valid ≡ heard d q .valid) × (proposed (hear-precommit d r i name) q ≡ proposed d q)
-  unfolding hear-precommit told
-  precommit-keeps q = (
-    set-back (d .state .log .proposals) r q,
-    set-back (d .state .log .valids) r q,
-    getD-set-other (d .table) (precommit-place r i) (proposal-place q) name 0 (λ e. omega (arith, e)),
-  )
+module _ (v : Votes) (d : Desk) (r i name : ℕ) where
+  abbrev heard-vote : Desk
+  heard-vote = hear-vote v d r i name
 
-  module _ (q j : ℕ) (hj : j < 32) where
-    -- a vote that is heard is that one, or was heard
-    pub prevote-heard : prevote-place r i < length (d .table) → marked (heard (hear-prevote d r i name) q .prevotes) j ≡ true →
-        ((q ≡ r) × (j ≡ i) × (prevoted (hear-prevote d r i name) q j ≡ name)) ⊎
-        ((marked (heard d q .prevotes) j ≡ true) × (prevoted (hear-prevote d r i name) q j ≡ prevoted d q j))
-    unfolding hear-prevote told
-    prevote-heard = vote-more prevote-place prevotes-apart (d .state .log .prevotes) (d .table) r i name hi q j hj
+  -- it is a mark in its place of the log
+  vote-log : heard-vote .state .log ≡ marked-at (d .state .log) (marks-at v r) i
+  unfolding hear-vote
+  vote-log =
+      tell-marks (d .state .log) r (mark (marks-of v (heard d r)) i) v
+      ∙ ap (λ (x : ℕ). set (d .state .log) (marks-at v r) (mark x i)) (marks-is v (d .state .log) r)
 
-    pub precommit-heard : precommit-place r i < length (d .table) → marked (heard (hear-precommit d r i name) q .precommits) j ≡ true →
-        ((q ≡ r) × (j ≡ i) × (precommitted (hear-precommit d r i name) q j ≡ name)) ⊎
-        ((marked (heard d q .precommits) j ≡ true) × (precommitted (hear-precommit d r i name) q j ≡ precommitted d q j))
-    unfolding hear-precommit told
-    precommit-heard = vote-more precommit-place precommits-apart (d .state .log .precommits) (d .table) r i name hi q j hj
+  vote-marks : (w : Votes) (q : ℕ) → marks-of w (heard heard-vote q) ≡ getD (marked-at (d .state .log) (marks-at v r) i) (marks-at w q) 0
+  vote-marks w q = marks-is w (heard-vote .state .log) q ∙ ap (λ (l : List ℕ). getD l (marks-at w q) 0) vote-log
 
-    -- and one that is not heard was not
-    pub prevote-unheard : r < length (d .state .log .prevotes) → marked (heard (hear-prevote d r i name) q .prevotes) j ≡ false →
-        (marked (heard d q .prevotes) j ≡ false) × (prevoted (hear-prevote d r i name) q j ≡ prevoted d q j)
-    unfolding hear-prevote told
-    prevote-unheard = vote-less prevote-place prevotes-apart (d .state .log .prevotes) (d .table) r i name hi q j hj
+  -- other rounds stay
+  pub vote-other : (q : ℕ) → (q ≡ r → ⊥) → heard heard-vote q ≡ heard d q
+  unfolding hear-vote
+  vote-other q n = told-other (d .state .log) r _ n
 
-    pub precommit-unheard : r < length (d .state .log .precommits) → marked (heard (hear-precommit d r i name) q .precommits) j ≡ false →
-        (marked (heard d q .precommits) j ≡ false) × (precommitted (hear-precommit d r i name) q j ≡ precommitted d q j)
-    unfolding hear-precommit told
-    precommit-unheard = vote-less precommit-place precommits-apart (d .state .log .precommits) (d .table) r i name hi q j hj
+  -- it is marked
+  pub vote-marked : {rounds : ℕ} → Sized rounds (d .state .log) → r < rounds → marked (marks-of v (heard heard-vote r)) i ≡ true
+  vote-marked {rounds} s less = ap (λ (x : ℕ). marked x i) (vote-marks v r) ∙ mark-set (d .state .log) (marks-at v r) i (marks-within v rounds r (d .state .log) s less)
 
--- with either verdict a proposal is heard
+  -- and no mark of either type is lost
+  pub vote-kept : (w : Votes) (q j : ℕ) → marked (marks-of w (heard d q)) j ≡ true → marked (marks-of w (heard heard-vote q)) j ≡ true
+  vote-kept w q j t =
+      ap (λ (x : ℕ). marked x j) (vote-marks w q)
+      ∙ mark-kept (d .state .log) (marks-at v r) i (marks-at w q) j (ap (λ (x : ℕ). marked x j) (sym (marks-is w (d .state .log) q)) ∙ t)
+
+  module _ (hi : i < 32) where
+    -- a name stays but in its own place
+    vote-stays : (w : Votes) (q j : ℕ) → j < 32 → ((v ≡ w) × (q ≡ r) × (j ≡ i) → ⊥) → voted w heard-vote q j ≡ voted w d q j
+    unfolding hear-vote
+    vote-stays w q j hj n = getD-set-other (d .table) (vote-place v r i) (vote-place w q j) name 0 (λ e. n (vote-apart v w r i q j hi hj e))
+
+    -- so do proposals
+    pub vote-sheets : (q : ℕ) →
+        (heard heard-vote q .proposal ≡ heard d q .proposal) × (heard heard-vote q .valid ≡ heard d q .valid) × (proposed heard-vote q ≡ proposed d q)
+    unfolding hear-vote told
+    vote-sheets q =
+        let l = d .state .log in
+        let x = mark (getD l (marks-at v r) 0) i in (
+          ap (λ (m : List ℕ). getD m (proposal-at q) 0) vote-log ∙ getD-set-other l (marks-at v r) (proposal-at q) x 0 (λ e. marks-proposal v q r .0 (sym e)),
+          ap (λ (m : List ℕ). getD m (valid-at q) 0) vote-log ∙ getD-set-other l (marks-at v r) (valid-at q) x 0 (λ e. marks-proposal v q r .1 (sym e)),
+          getD-set-other (d .table) (vote-place v r i) (proposal-place q) name 0 (λ e. vote-proposal v q r i hi (sym e)),
+        )
+
+    -- the names of other rounds
+    pub vote-names : (w : Votes) (q j : ℕ) → j < 32 → (q ≡ r → ⊥) → voted w heard-vote q j ≡ voted w d q j
+    vote-names w q j hj n = vote-stays w q j hj (λ h. n (h .1))
+
+    -- a vote that is heard is that one, or was heard with the name that it has
+    pub vote-heard : vote-place v r i < length (d .table) → (w : Votes) (q j : ℕ) → j < 32 → marked (marks-of w (heard heard-vote q)) j ≡ true →
+        ((v ≡ w) × (q ≡ r) × (j ≡ i) × (voted w heard-vote q j ≡ name)) ⊎ ((marked (marks-of w (heard d q)) j ≡ true) × (voted w heard-vote q j ≡ voted w d q j))
+    unfolding hear-vote
+    vote-heard at w q j hj t = go (ℕ-discrete (marks-at w q) (marks-at v r)) (ℕ-discrete j i)
+      where
+        old : ((marks-at w q ≡ marks-at v r) × (j ≡ i) → ⊥) → (marked (marks-of w (heard d q)) j ≡ true) × (voted w (hear-vote v d r i name) q j ≡ voted w d q j)
+        old n = (
+          ⊎-elim (λ h. absurd (n h)) (λ s. ap (λ (x : ℕ). marked x j) (marks-is w (d .state .log) q) ∙ s)
+              (marks-more (d .state .log) (marks-at v r) i (marks-at w q) j (ap (λ (x : ℕ). marked x j) (sym (vote-marks w q)) ∙ t)),
+          vote-stays w q j hj (λ h. n (rw (sym (h .0), h .1) refl, h .2)),
+        )
+
+        go : Dec (marks-at w q ≡ marks-at v r) → Dec (j ≡ i) →
+            ((v ≡ w) × (q ≡ r) × (j ≡ i) × (voted w (hear-vote v d r i name) q j ≡ name)) ⊎
+            ((marked (marks-of w (heard d q)) j ≡ true) × (voted w (hear-vote v d r i name) q j ≡ voted w d q j))
+        go (yes e) (yes f) =
+            let same = marks-apart v w r q e in
+            inl (same .0, same .1, f, rw (sym (same .0), same .1, f) (getD-set-same (d .table) (vote-place v r i) name 0 at))
+        go (yes e) (no n) = inr (old (λ h. n (h .1)))
+        go (no n) f = inr (old (λ h. n (h .0)))
+
+    -- and one that is not heard was not, and its place holds what it held
+    pub vote-unheard : {rounds : ℕ} → Sized rounds (d .state .log) → r < rounds → (w : Votes) (q j : ℕ) → j < 32 → marked (marks-of w (heard heard-vote q)) j ≡ false →
+        (marked (marks-of w (heard d q)) j ≡ false) × (voted w heard-vote q j ≡ voted w d q j)
+    vote-unheard {rounds} s less w q j hj t =
+        let m =
+        marks-less (d .state .log) (marks-at v r) i (marks-within v rounds r (d .state .log) s less) (marks-at w q) j
+        (ap (λ (x : ℕ). marked x j) (sym (vote-marks w q)) ∙ t) in (
+          ap (λ (x : ℕ). marked x j) (marks-is w (d .state .log) q) ∙ m .1,
+          vote-stays w q j hj (λ h. m .0 (rw (sym (h .0), h .1) refl, h .2)),
+        )
+
+-- an own vote is heard and sent, and it is a step
+pub vote-is : (v : Votes) (name : ℕ) (d : Desk) →
+    vote v name d ≡ at-step (step-of v) (send (output (vote-out v) (current d) 0 name) (hear-vote v d (current d) (own d) name))
+unfolding vote message
+vote-is Prevotes name d = refl
+vote-is Precommits name d = refl
+
+-- ## A proposal
+
+-- with either verdict one is heard
 verdict-some : (good : Bool) → not (eqb (if good then 2 else 1) 0) ≡ true
 verdict-some true = refl
 verdict-some false = refl
 
--- a proposal changes no vote, and no other round's proposal
+-- it changes no vote, and no other round's proposal
 module _ (d : Desk) (r : ℕ) (good : Bool) (valid name : ℕ) where
-  pub proposal-prevotes : (q j : ℕ) → j < 32 →
-      (heard (hear-proposal d r good valid name) q .prevotes ≡ heard d q .prevotes) × (prevoted (hear-proposal d r good valid name) q j ≡ prevoted d q j)
-  unfolding hear-proposal told
-  proposal-prevotes q j hj = (set-back (d .state .log .prevotes) r q, getD-set-other (d .table) (proposal-place r) (prevote-place q j) name 0 (λ e. omega (arith, e)))
+  abbrev heard-proposal : Desk
+  heard-proposal = hear-proposal d r good valid name
 
-  pub proposal-precommits : (q j : ℕ) → j < 32 →
-      (heard (hear-proposal d r good valid name) q .precommits ≡ heard d q .precommits) × (precommitted (hear-proposal d r good valid name) q j ≡ precommitted d q j)
-  unfolding hear-proposal told
-  proposal-precommits q j hj = (set-back (d .state .log .precommits) r q, getD-set-other (d .table) (proposal-place r) (precommit-place q j) name 0 (λ e. omega (arith, e)))
+  proposal-log : heard-proposal .state .log ≡ set (set (d .state .log) (proposal-at r) (if good then 2 else 1)) (valid-at r) valid
+  unfolding hear-proposal
+  proposal-log = tell-proposal (d .state .log) r (if good then 2 else 1) valid
 
-  pub proposal-other : (q : ℕ) → (q ≡ r → ⊥) →
-      (heard (hear-proposal d r good valid name) q ≡ heard d q) × (proposed (hear-proposal d r good valid name) q ≡ proposed d q)
+  pub proposal-votes : (v : Votes) (q j : ℕ) → j < 32 → (marks-of v (heard heard-proposal q) ≡ marks-of v (heard d q)) × (voted v heard-proposal q j ≡ voted v d q j)
+  unfolding hear-proposal
+  proposal-votes v q j hj =
+      let l = d .state .log in
+      let p : ℕ = if good then 2 else 1 in
+      let off = marks-proposal v r q in (
+        marks-is v (hear-proposal d r good valid name .state .log) q
+            ∙ ap (λ (m : List ℕ). getD m (marks-at v q) 0) proposal-log
+            ∙ getD-set-other (set l (proposal-at r) p) (valid-at r) (marks-at v q) valid 0 (off .1)
+            ∙ getD-set-other l (proposal-at r) (marks-at v q) p 0 (off .0)
+            ∙ sym (marks-is v l q),
+        getD-set-other (d .table) (proposal-place r) (vote-place v q j) name 0 (vote-proposal v r q j hj),
+      )
+
+  pub proposal-other : (q : ℕ) → (q ≡ r → ⊥) → (heard heard-proposal q ≡ heard d q) × (proposed heard-proposal q ≡ proposed d q)
   unfolding hear-proposal
   proposal-other q n = (told-other (d .state .log) r _ n, getD-set-other (d .table) (proposal-place r) (proposal-place q) name 0 (λ e. n (omega (arith, e))))
 
   -- its own round's is it
   pub proposal-same : {rounds : ℕ} → Sized rounds (d .state .log) → r < rounds → proposal-place r < length (d .table) →
-      let h = heard (hear-proposal d r good valid name) r in
-      (h .proposal ≡ (if good then 2 else 1)) × (h .valid ≡ valid) × (proposed (hear-proposal d r good valid name) r ≡ name)
+      let h = heard heard-proposal r in
+      (h .proposal ≡ (if good then 2 else 1)) × (h .valid ≡ valid) × (proposed heard-proposal r ≡ name)
   unfolding hear-proposal
-  proposal-same {rounds} s less at =
+  proposal-same s less at =
       let h = heard d r in
-      let e = told-same rounds (d .state .log) s r (record { prevotes = h .prevotes; precommits = h .precommits; proposal = if good then 2 else 1; valid = valid }) less in
+      let e = told-same (d .state .log) r (record { prevotes = h .prevotes; precommits = h .precommits; proposal = if good then 2 else 1; valid = valid }) s less in
       (ap (λ (x : Heard). x .proposal) e, ap (λ (x : Heard). x .valid) e, getD-set-same (d .table) (proposal-place r) name 0 at)
 
   -- and after it the round is spoken for
-  pub proposal-spoken : {rounds : ℕ} → Sized rounds (d .state .log) → r < rounds → spoken (heard (hear-proposal d r good valid name) r) ≡ true
+  pub proposal-spoken : {rounds : ℕ} → Sized rounds (d .state .log) → r < rounds → spoken (heard heard-proposal r) ≡ true
   unfolding hear-proposal
-  proposal-spoken {rounds} s less =
+  proposal-spoken s less =
       let h = heard d r in
-      ap spoken (told-same rounds (d .state .log) s r (record { prevotes = h .prevotes; precommits = h .precommits; proposal = if good then 2 else 1; valid = valid }) less) ∙ verdict-some good
+      ap spoken (told-same (d .state .log) r (record { prevotes = h .prevotes; precommits = h .precommits; proposal = if good then 2 else 1; valid = valid }) s less) ∙ verdict-some good
 
   -- as is each round that was
-  pub proposal-kept : (q : ℕ) → spoken (heard d q) ≡ true → spoken (heard (hear-proposal d r good valid name) q) ≡ true
-  unfolding hear-proposal told
-  proposal-kept q = place-kept (λ (x : ℕ). not (eqb x 0) ≡ true) (λ x. if good then 2 else 1) (λ x h. verdict-some good) (d .state .log .proposals) r q
+  pub proposal-kept : (q : ℕ) → spoken (heard d q) ≡ true → spoken (heard heard-proposal q) ≡ true
+  unfolding told
+  proposal-kept q t =
+      let l = d .state .log in
+      let p : ℕ = if good then 2 else 1 in
+      ap (λ (m : List ℕ). not (eqb (getD m (proposal-at q) 0) 0)) proposal-log
+      ∙ ap (λ (x : ℕ). not (eqb x 0)) (getD-set-other (set l (proposal-at r) p) (valid-at r) (proposal-at q) valid 0 (λ e. omega (arith, e)))
+      ∙ place-kept (λ (x : ℕ). not (eqb x 0) ≡ true) (λ x. if good then 2 else 1) (λ x h. verdict-some good) l (proposal-at r) (proposal-at q) t

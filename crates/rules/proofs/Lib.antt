@@ -4,6 +4,7 @@ pub mod Stories
 pub mod After
 pub mod ByRule
 pub mod ByInput
+pub mod Telling
 pub mod Hearing
 pub mod Deeds
 pub mod Room

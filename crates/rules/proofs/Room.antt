@@ -9,7 +9,7 @@ use Rattle.rules.specs.declared.Step.{Step}
 use Rattle.rules.specs.declared.Step.the-variants.{Propose, Prevote, Precommit}
 use Rattle.rules.specs.State.{is-running, is-propose, is-prevote}
 use Rattle.rules.specs.Log.{Desk}
-use Rattle.rules.specs.Room.{steps-left, unless, run-left, room}
+use Rattle.rules.specs.contracts.Room.{steps-left, unless, run-left, room}
 
 -- what each test says of it
 pub propose-left : (s : Step) → is-propose s ≡ true → steps-left s ≡ 2
@@ -48,5 +48,5 @@ run-most (Settled r) = omega arith
 
 pub room-most : (d : Desk) → room d ≤ 5
 room-most d =
-    let s = d .state .stand in
-    omega (arith, steps-most (s .step), unless-most (s .asked .prevote), unless-most (s .asked .precommit), run-most (d .state .phase))
+    let s = d .state .progress .stand in
+    omega (arith, steps-most (s .step), unless-most (s .asked .prevote), unless-most (s .asked .precommit), run-most (d .state .progress .phase))

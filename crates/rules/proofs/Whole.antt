@@ -3,13 +3,12 @@
 use Prim.Native.Nat.{ℕ, suc, _-_}
 use mathlib.Core.List.{List, [], _∷_, _++_}
 use mathlib.Core.Bool.{Bool}
-use lib.ListN.{length, replicate}
+use lib.ListN.{length, replicate, getD, drop}
 use Rattle.roll.specs.declared.Roll.{Roll}
 use Rattle.rules.specs.declared.Phase.{Phase}
 use Rattle.rules.specs.declared.Step.{Step}
 use Rattle.rules.specs.declared.Stand.{Stand}
 use Rattle.rules.specs.declared.Held.{Held}
-use Rattle.rules.specs.declared.Log.{Log}
 use Rattle.rules.specs.declared.State.{State}
 use Rattle.rules.specs.declared.Input.{Input}
 use Rattle.rules.specs.declared.Output.{Output}
@@ -37,16 +36,16 @@ roll kiosks powers own height = record { kiosks = kiosks; powers = powers ++ rep
 
 -- round plus one, name
 abbrev pub held : ℕ → ℕ → Held
-held next name = record { next = next; name = name }
+held next name = record { next = record { 0 = next }; name = name }
+
+-- the numbers of four lists by turns
+unfoldable pub woven : List ℕ → List ℕ → List ℕ → List ℕ → List ℕ
+woven [] bs cs ds = []
+woven (a ∷ as′) bs cs ds = a ∷ getD bs 0 0 ∷ getD cs 0 0 ∷ getD ds 0 0 ∷ woven as′ (drop 1 bs) (drop 1 cs) (drop 1 ds)
 
 -- by round: the marks of prevotes, the marks of precommits, what is heard of the proposal (1 bad, 2 good), its valid round plus one
-abbrev pub log : List Spot → List Spot → List Spot → List Spot → Log
-log prevotes precommits proposals valids = record {
-  prevotes = spread 0 16 prevotes;
-  precommits = spread 0 16 precommits;
-  proposals = spread 0 16 proposals;
-  valids = spread 0 16 valids;
-}
+abbrev pub log : List Spot → List Spot → List Spot → List Spot → List ℕ
+log prevotes precommits proposals valids = woven (spread 0 16 prevotes) (spread 0 16 precommits) (spread 0 16 proposals) (spread 0 16 valids)
 
 -- round, step; the timers of propose, prevote and precommit asked for; rule 36 has fired
 abbrev pub stand : ℕ → Step → Bool → Bool → Bool → Bool → Stand
@@ -57,8 +56,8 @@ stand round step propose prevote precommit backed = record {
   backed = backed;
 }
 
-abbrev pub state : Roll → Phase → Stand → Held → Held → Log → State
-state roll phase stand locked valid log = record { roll = roll; phase = phase; stand = stand; locked = locked; valid = valid; log = log }
+abbrev pub state : Roll → Phase → Stand → Held → Held → List ℕ → State
+state roll phase stand locked valid log = record { roll = roll; progress = record { phase = phase; stand = stand; locked = locked; valid = valid }; log = log }
 
 -- kind, sender, round, valid round plus one, verdict, name, offer, as in a journal; and the height
 abbrev pub input : ℕ → ℕ → ℕ → ℕ → ℕ → ℕ → ℕ → ℕ → Input
@@ -67,7 +66,7 @@ input kind sender round valid verdict name offer height = record {
   height = record { 0 = height };
   sender = sender;
   round = record { 0 = round };
-  valid = valid;
+  valid = record { 0 = valid };
   verdict = verdict;
   name = name;
   offer = offer;
@@ -75,4 +74,4 @@ input kind sender round valid verdict name offer height = record {
 
 -- kind, round, valid round plus one, name, as in a journal
 abbrev pub out : ℕ → ℕ → ℕ → ℕ → Output
-out kind round valid name = record { kind = kind; round = record { 0 = round }; valid = valid; name = name }
+out kind round valid name = record { kind = kind; round = record { 0 = round }; valid = record { 0 = valid }; name = name }

@@ -8,11 +8,13 @@ use lib.Dec.{eqb}
 use Rattle.words.specs.Choice.{if_then_else_}
 use Rattle.words.specs.Marks.{marked, mark}
 use Rattle.roll.specs.Weighing.{power-of, proposer}
+use Rattle.rules.specs.declared.Votes.{Votes}
+use Rattle.rules.specs.declared.Votes.the-variants.{Prevotes, Precommits}
 use Rattle.rules.specs.declared.Heard.{Heard}
-use Rattle.rules.specs.declared.Log.{Log}
 use Rattle.rules.specs.declared.State.{State}
 use Rattle.rules.specs.declared.Output.{Output}
-use Rattle.rules.specs.State.{most-rounds, rounds-of, with-log, spoken, good}
+use Rattle.rules.specs.Kinds.{proposal-out, vote-out}
+use Rattle.rules.specs.State.{most-rounds, rounds-of, marks-at, proposal-at, valid-at, marks-of, with-marks, with-log, spoken, good}
 
 -- What a call works on: how many rounds there are, the state, the lent table, and the outputs so far
 pub record Desk : Type 0 where
@@ -28,8 +30,8 @@ desk s table = record { rounds = rounds-of s; state = s; table = table; sent = [
 abbrev pub with-state : State → Desk → Desk
 with-state s d = record { rounds = d .rounds; state = s; table = d .table; sent = d .sent }
 
--- "1,040 64-bit numbers, 65 per round: the proposal's name, 32 prevotes, 32 precommits": where round r's proposal, and the prevote
--- and the precommit of seat i, stand
+-- "1,040 64-bit numbers, 65 per round: the proposal's name, 32 prevotes, 32 precommits": where round r's proposal stands, where its
+-- votes of a type begin, and where seat i's stands
 abbrev pub per-round : ℕ
 per-round = 65
 
@@ -39,27 +41,29 @@ table-length = per-round * most-rounds
 abbrev pub proposal-place : ℕ → ℕ
 proposal-place r = per-round * r
 
-abbrev pub prevote-place : ℕ → ℕ → ℕ
-prevote-place r i = per-round * r + 1 + i
+abbrev pub votes-place : Votes → ℕ → ℕ
+votes-place Prevotes r = per-round * r + 1
+votes-place Precommits r = per-round * r + 33
 
-abbrev pub precommit-place : ℕ → ℕ → ℕ
-precommit-place r i = per-round * r + 33 + i
+abbrev pub vote-place : Votes → ℕ → ℕ → ℕ
+vote-place v r i = votes-place v r + i
 
 -- a table in which nothing is heard
 abbrev pub empty-table : List ℕ
 empty-table = replicate table-length 0
 
 -- "It says which places are heard": what a log says of round r, and the log that says this of round r
-unfoldable pub told : Log → ℕ → Heard
-told l r = record { prevotes = getD (l .prevotes) r 0; precommits = getD (l .precommits) r 0; proposal = getD (l .proposals) r 0; valid = getD (l .valids) r 0 }
-
-abbrev pub tell : Log → ℕ → Heard → Log
-tell l r h = record {
-  prevotes = set (l .prevotes) r (h .prevotes);
-  precommits = set (l .precommits) r (h .precommits);
-  proposals = set (l .proposals) r (h .proposal);
-  valids = set (l .valids) r (h .valid);
+unfoldable pub told : List ℕ → ℕ → Heard
+told l r = record {
+  prevotes = getD l (marks-at Prevotes r) 0;
+  precommits = getD l (marks-at Precommits r) 0;
+  proposal = getD l (proposal-at r) 0;
+  valid = getD l (valid-at r) 0;
 }
+
+unfoldable pub tell : List ℕ → ℕ → Heard → List ℕ
+tell l r h =
+    set (set (set (set l (marks-at Prevotes r) (h .prevotes)) (marks-at Precommits r) (h .precommits)) (proposal-at r) (h .proposal)) (valid-at r) (h .valid)
 
 -- what is heard of round r
 abbrev pub heard : Desk → ℕ → Heard
@@ -69,11 +73,8 @@ heard d r = told (d .state .log) r
 abbrev pub proposed : Desk → ℕ → ℕ
 proposed d r = getD (d .table) (proposal-place r) 0
 
-abbrev pub prevoted : Desk → ℕ → ℕ → ℕ
-prevoted d r i = getD (d .table) (prevote-place r i) 0
-
-abbrev pub precommitted : Desk → ℕ → ℕ → ℕ
-precommitted d r i = getD (d .table) (precommit-place r i) 0
+abbrev pub voted : Votes → Desk → ℕ → ℕ → ℕ
+voted v d r i = getD (d .table) (vote-place v r i) 0
 
 -- the sheets of round r's proposals with verdict 1, in the order in which rules 36 and 49 look at them
 unfoldable pub good-sheets : Desk → ℕ → List ℕ
@@ -95,38 +96,30 @@ hear-proposal d r good valid name =
     let h = heard d r in
     logged d r (record { prevotes = h .prevotes; precommits = h .precommits; proposal = if good then 2 else 1; valid = valid }) (proposal-place r) name
 
-unfoldable pub hear-prevote : Desk → ℕ → ℕ → ℕ → Desk
-hear-prevote d r i name =
+unfoldable pub hear-vote : Votes → Desk → ℕ → ℕ → ℕ → Desk
+hear-vote v d r i name =
     let h = heard d r in
-    logged d r (record { prevotes = mark (h .prevotes) i; precommits = h .precommits; proposal = h .proposal; valid = h .valid })
-    (prevote-place r i) name
+    logged d r (with-marks v (mark (marks-of v h) i) h) (vote-place v r i) name
 
-unfoldable pub hear-precommit : Desk → ℕ → ℕ → ℕ → Desk
-hear-precommit d r i name =
-    let h = heard d r in
-    logged d r (record { prevotes = h .prevotes; precommits = mark (h .precommits) i; proposal = h .proposal; valid = h .valid })
-    (precommit-place r i) name
+-- an output of seat i put in the log, where it is a message, a proposal with this verdict
+unfoldable pub message : Output → ℕ → Bool → Desk → Desk
+message o i good d =
+    let r = o .round .0 in
+    if eqb (o .kind) proposal-out then hear-proposal d r good (o .valid .0) (o .name)
+    else if eqb (o .kind) (vote-out Prevotes) then hear-vote Prevotes d r i (o .name)
+    else if eqb (o .kind) (vote-out Precommits) then hear-vote Precommits d r i (o .name)
+    else d
 
--- the powers that the rules weigh: prevotes of round r under any name, and under one; precommits so
-unfoldable pub prevote-power : Desk → ℕ → ℕ
-prevote-power d r =
-    let marks = heard d r .prevotes in
+-- the powers that the rules weigh: votes of round r under any name, and under one
+unfoldable pub power : Votes → Desk → ℕ → ℕ
+power v d r =
+    let marks = marks-of v (heard d r) in
     power-of (d .state .roll) (λ i. marked marks i)
 
-unfoldable pub prevote-power-for : Desk → ℕ → ℕ → ℕ
-prevote-power-for d r name =
-    let marks = heard d r .prevotes in
-    power-of (d .state .roll) (λ i. marked marks i && eqb (prevoted d r i) name)
-
-unfoldable pub precommit-power : Desk → ℕ → ℕ
-precommit-power d r =
-    let marks = heard d r .precommits in
-    power-of (d .state .roll) (λ i. marked marks i)
-
-unfoldable pub precommit-power-for : Desk → ℕ → ℕ → ℕ
-precommit-power-for d r name =
-    let marks = heard d r .precommits in
-    power-of (d .state .roll) (λ i. marked marks i && eqb (precommitted d r i) name)
+unfoldable pub power-for : Votes → Desk → ℕ → ℕ → ℕ
+power-for v d r name =
+    let marks = marks-of v (heard d r) in
+    power-of (d .state .roll) (λ i. marked marks i && eqb (voted v d r i) name)
 
 -- "A sender's proposal, prevote and precommit count once together": the power of the senders of any message of round r
 unfoldable pub message-power : Desk → ℕ → ℕ
@@ -137,5 +130,5 @@ message-power d r =
 
 -- To compute with this file: `unfolding the-log` opens the above.
 unfoldable pub the-log : Unit {0}
-unfolding told good-sheets hear-proposal hear-prevote hear-precommit prevote-power prevote-power-for precommit-power precommit-power-for message-power
+unfolding told tell good-sheets hear-proposal hear-vote message power power-for message-power
 the-log = tt

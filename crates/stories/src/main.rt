@@ -5,21 +5,23 @@ use kiosk::Kiosk;
 use kiosk::calls::create;
 use opening::open;
 use roll::Height;
+use roll::PlusOne;
 use roll::Round;
 use rules::Input;
 use rules::Output;
 use rules::Sent;
+use rules::State;
 ghost use Prim.Native.Nat.{_<_};
 
 // Kind, sender, round, name; offer 9, and a proposal has verdict 1 and valid round -1.
 fn given(kind: u8, sender: u8, round: u8, name: u64) -> Input {
-    let verdict = if kind == 2 { 1 } else { 0 };
+    let verdict = if kind == Input::PROPOSAL { 1 } else { 0 };
     Input {
         kind,
         height: Height(1),
         sender,
         round: Round(round),
-        valid: 0,
+        valid: PlusOne(0),
         verdict,
         name,
         offer: 9,
@@ -34,7 +36,7 @@ fn number(n: u64, after: &[u8]) {
 fn show(o: Output) {
     number(o.kind as u64, b" ");
     number(o.round.0 as u64, b" ");
-    number(o.valid as u64, b" ");
+    number(o.valid.0 as u64, b" ");
     number(o.name, b"\n");
 }
 
@@ -77,7 +79,7 @@ fn told(k: Kiosk, i: Input, table: &mut [u64], journal: &mut [u8]) -> Kiosk {
 // "start at first", and on to the nil prevote of round 1.
 fn locks() {
     let mut journal = [0u8; 5147];
-    let mut table = [0u64; 1040];
+    let mut table = [0u64; State::TABLE];
     let k0 = four(&mut journal, &mut table);
     let k1 = told(k0, given(1, 0, 0, 0), &mut table, &mut journal);
     let k2 = told(k1, given(2, 1, 0, 50), &mut table, &mut journal);
@@ -92,7 +94,7 @@ fn locks() {
 // "Fresh start instead", and on to the proposal of round 3.
 fn skips() {
     let mut journal = [0u8; 5147];
-    let mut table = [0u64; 1040];
+    let mut table = [0u64; State::TABLE];
     let k0 = four(&mut journal, &mut table);
     let k1 = told(k0, given(1, 0, 0, 0), &mut table, &mut journal);
     let k2 = told(k1, given(3, 2, 3, 0), &mut table, &mut journal);

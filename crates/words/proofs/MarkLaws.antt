@@ -1,16 +1,17 @@
--- Laws of seat marks: which seats are set after a mark, and in one or the other of two. Assumes nothing.
+-- Laws of seat marks: which seats are set after a mark, in one or the other of two, and without the lowest. Assumes nothing.
 use Prim.Native.Nat.{ℕ, zero, suc, _+_, _*_, _-_, _/_, _%_, _^_, _≤_, _<_, max}
 use mathlib.Core.Path.{_≡_, refl, sym, ap, _∙_}
 use mathlib.Core.Bool.{Bool, true, false, _||_}
-use native.Mathlib.Nat.{pow-suc, div-one, div-eq-of-lt, zero-div}
+use native.Mathlib.Nat.{pow-suc, div-one, div-eq-of-lt, zero-div, div-eq-sub-div}
 use native.Mathlib.Numerals.{one-add}
 use native.Mathlib.Omega.{arith}
 use borrow.Author.Tests.{eqb-true, eqb-false, eq-eqb, ne-eqb}
 use lib.Dec.{eqb, eqb·zero-suc, eqb·suc-zero, eqb·suc-suc}
-use lib.Pow.{pow-mono, pow-lt, shr-shr}
-use lib.Bits.{bitAnd, bitOr, or-step, or-shr, or-lt, or-add-and, and-high}
+use lib.Pow.{pow-pos, pow-mono, pow-lt, shr-shr}
+use lib.Count.{trailingZeros, under}
+use lib.Bits.{bitAnd, bitOr, and-step, and-self, or-step, or-shr, or-lt, or-add-and, and-high}
 use Rattle.words.specs.Marks.{marked, mark}
-use Rattle.words.proofs.Choice.{by-test}
+use Rattle.words.proofs.Choice.{by-test, by-cases}
 
 -- no seat is marked in 0
 pub marked-zero : (j : ℕ) → marked 0 j ≡ false
@@ -81,3 +82,75 @@ mark-seats m i j =
 -- marks of n seats stay marks of n seats
 pub mark-below : (n i m : ℕ) → i < n → m < 2 ^ n → mark m i < 2 ^ n
 mark-below n i m h l = rw (mark-is-or m i) (or-lt n m (2 ^ i) l (pow-lt h))
+
+-- each of n seats is marked in 2^n - 1
+all-marked : (n i : ℕ) → i < n → marked (2 ^ n - 1) i ≡ true
+all-marked zero i h = absurd (omega arith)
+all-marked (suc n) zero h =
+    let odd : (2 ^ suc n - 1) / 2 ^ 0 % 2 ≡ 1 = rw (div-one (2 ^ suc n - 1)) (omega (arith, pow-suc 2 n, pow-pos n)) in
+    ap (λ (x : ℕ). eqb x 1) odd
+all-marked (suc n) (suc i) h =
+    let half : (2 ^ suc n - 1) / 2 ≡ 2 ^ n - 1 = omega (arith, pow-suc 2 n, pow-pos n) in
+    let halves : (2 ^ suc n - 1) / 2 ^ suc i ≡ (2 ^ n - 1) / 2 ^ i
+    = ap (λ (k : ℕ). (2 ^ suc n - 1) / 2 ^ k) (sym (one-add i)) ∙ sym (shr-shr (2 ^ suc n - 1) 1 i) ∙ ap (λ (x : ℕ). x / 2 ^ i) half in
+    ap (λ (x : ℕ). eqb (x % 2) 1) halves ∙ all-marked n i (omega arith)
+
+-- every seat is marked in `EVERY`
+pub every-marked : (i : ℕ) → i < 32 → marked 4294967295 i ≡ true
+every-marked = all-marked 32
+
+-- ---- the lowest seat marked
+
+record Lowest (k m t : ℕ) : Type 0 where
+  pub seat : t < k
+  pub there : 2 ^ t ≤ m
+  pub digit : m / 2 ^ t % 2 ≡ 1
+  pub others : bitAnd m (m - 1) ≡ m - 2 ^ t
+
+lowest-digit : (k m : ℕ) → 0 < m → m < 2 ^ k → Lowest k m (trailingZeros k m)
+unfolding trailingZeros
+lowest-digit zero m p l = absurd (omega arith)
+lowest-digit (suc k) m p l =
+    by-cases (eqb (m % 2) 1) (λ e. odd (eqb-true (m % 2) 1 e)) (λ e.
+    let zero′ : m % 2 ≡ 0 = omega (arith, eqb-false (m % 2) 1 e) in
+    even zero′ (lowest-digit k (m / 2) (omega arith) (omega (arith, pow-suc 2 k))))
+  where
+    odd : m % 2 ≡ 1 → Lowest (suc k) m (under (m % 2) (trailingZeros k (m / 2)))
+    odd one =
+        let half : (m - 1) / 2 ≡ m / 2 = omega arith in
+        let same = ap (bitAnd (m / 2)) half ∙ and-self (m / 2) in
+        let rest : bitAnd m (m - 1) ≡ m - 2 ^ 0 = omega (arith, and-step m (m - 1), same) in
+        rw one (record { seat = omega arith; there = omega arith; digit = rw (div-one m) one; others = rest })
+
+    even : m % 2 ≡ 0 → Lowest k (m / 2) (trailingZeros k (m / 2)) → Lowest (suc k) m (under (m % 2) (trailingZeros k (m / 2)))
+    even none low =
+        let t : ℕ = trailingZeros k (m / 2) in
+        let half : (m - 1) / 2 ≡ m / 2 - 1 = omega arith in
+        let fewer = ap (bitAnd (m / 2)) half ∙ low .others in
+        let rest : bitAnd m (m - 1) ≡ m - 2 ^ suc t = omega (arith, and-step m (m - 1), fewer, pow-suc 2 t, low .there) in
+        let halves : m / 2 ^ suc t ≡ m / 2 / 2 ^ t = ap (λ (n : ℕ). m / 2 ^ n) (sym (one-add t)) ∙ sym (shr-shr m 1 t) in
+        rw none (record {
+          seat = omega (arith, low .seat);
+          there = omega (arith, pow-suc 2 t, low .there);
+          digit = ap (λ (x : ℕ). x % 2) halves ∙ low .digit;
+          others = rest;
+        })
+
+module _ (k m : ℕ) (p : 0 < m) (l : m < 2 ^ k) where
+  -- it is one of those that the number has room for
+  pub lowest-seat : trailingZeros k m < k
+  lowest-seat = lowest-digit k m p l .seat
+
+  -- `m & (m - 1)` takes its digit away
+  pub lowest-away : bitAnd m (m - 1) ≡ m - 2 ^ trailingZeros k m
+  lowest-away = lowest-digit k m p l .others
+
+  -- the seats marked are the lowest, and those that are left without it
+  pub lowest-others : (j : ℕ) → marked m j ≡ (eqb (trailingZeros k m) j || marked (m - 2 ^ trailingZeros k m) j)
+  lowest-others j =
+      let t : ℕ = trailingZeros k m in
+      let low = lowest-digit k m p l in
+      let digit : (m - 2 ^ t) / 2 ^ t % 2 ≡ 0 = omega (arith, low .digit, div-eq-sub-div (pow-pos t) (low .there)) in
+      let gone : marked (m - 2 ^ t) t ≡ false = ap (λ (x : ℕ). eqb x 1) digit in
+      let back : mark (m - 2 ^ t) t ≡ m = rw gone (omega (arith, low .there)) in
+      ap (λ (x : ℕ). marked x j) (sym back) ∙ mark-seats (m - 2 ^ t) t j

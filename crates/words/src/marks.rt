@@ -1,8 +1,12 @@
 // Seat marks: up to 32 seats in one number, seat i's mark at binary digit i.
-ghost use Prim.Native.Nat.{_<_};
+ghost use Prim.Native.Nat.{_-_, _^_, _<_};
 ghost use mathlib.Core.Path.{_≡_};
 ghost use lib.Bits.{bitOr};
+ghost use lib.Count.{trailingZeros};
 ghost use Rattle.words.specs.Marks.{marked, mark};
+
+// Every seat's mark.
+pub const EVERY: u32 = 0xffff_ffff;
 
 // Whether the seat has its mark.
 pub fn is_marked(marks: u32, seat: usize) -> bool
@@ -25,4 +29,19 @@ pub fn either(a: u32, b: u32) -> u32
     ensures { λ r. ⌜ r ≡ bitOr a b ⌝ }
 {
     a | b
+}
+
+// The lowest seat marked; 32 where none is.
+pub fn lowest(marks: u32) -> usize
+    ensures { λ r. ⌜ r ≡ trailingZeros 32 marks ⌝ }
+{
+    u32::trailing_zeros(marks) as usize
+}
+
+// The marks without the lowest seat's.
+pub fn without_lowest(marks: u32) -> u32
+    requires { ⌜ 0 < marks ⌝ }
+    ensures { λ r. ⌜ r ≡ marks - 2 ^ trailingZeros 32 marks ⌝ }
+{
+    marks & (marks - 1)
 }

@@ -26,19 +26,13 @@ fn kiosk() -> Kiosk {
         backed: 8,
         locked_next: 9,
         valid_next: 10,
-        prevotes: [0; ROUNDS],
-        precommits: [0; ROUNDS],
-        proposals: [0; ROUNDS],
-        valids: [0; ROUNDS],
+        log: [[0; 4]; ROUNDS],
     };
     for (power, number) in kiosk.powers.iter_mut().zip(60_000..) {
         *power = number;
     }
-    for (round, number) in (0..ROUNDS).zip(20..) {
-        kiosk.prevotes[round] = u32::MAX - 100 - u32::from(number);
-        kiosk.precommits[round] = u32::MAX - 200 - u32::from(number);
-        kiosk.proposals[round] = number;
-        kiosk.valids[round] = number + 20;
+    for (heard, number) in kiosk.log.iter_mut().zip((20u32..).step_by(4)) {
+        *heard = [0, 1, 2, 3].map(|more| u32::MAX - number - more);
     }
     kiosk
 }
@@ -71,22 +65,17 @@ fn numbers(kiosk: &Kiosk) -> Vec<(usize, usize, u64)> {
     for (index, &power) in kiosk.powers.iter().enumerate() {
         numbers.push((7, index, power.into()));
     }
-    for round in 0..ROUNDS {
-        numbers.extend([
-            (18, round, kiosk.prevotes[round].into()),
-            (19, round, kiosk.precommits[round].into()),
-            (20, round, kiosk.proposals[round].into()),
-            (21, round, kiosk.valids[round].into()),
-        ]);
+    for (index, &number) in kiosk.log.iter().flatten().enumerate() {
+        numbers.push((18, index, number.into()));
     }
     // A field or an index that there is not.
     numbers.extend([
         (7, KIOSKS, 0),
         (7, usize::MAX, 0),
-        (22, 0, 0),
+        (19, 0, 0),
         (usize::MAX, 0, 0),
     ]);
-    numbers.extend((18..=21).flat_map(|field| [(field, ROUNDS, 0), (field, usize::MAX, 0)]));
+    numbers.extend([(18, 4 * ROUNDS, 0), (18, usize::MAX, 0)]);
     numbers
 }
 

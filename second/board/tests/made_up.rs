@@ -2,8 +2,10 @@
 
 mod common;
 use common::*;
-use compare::{made_up, Lent, Met, Random};
-use flat::{ROOMY, TABLE};
+use compare::inputs::{precommit, prevote, start};
+use compare::{made_up, Lent, Market, Met, Random};
+use flat::{heard, ROOMY, TABLE};
+use second::Input;
 
 /// One to three numbers of a state that calls left changed; every number picked alone; and states near a rule.
 #[test]
@@ -57,6 +59,71 @@ fn unholdable_numbers() {
     }
     println!("{accepted} of the puts are accepted without the change");
     assert!(accepted > 0);
+}
+
+/// Numbers at the edges written into every round of the log, in states that calls left and near a rule. What an accepted
+/// put of another round leaves of them is what was written.
+#[test]
+fn numbers_in_the_log() {
+    let mut met = Met::default();
+    let mut random = Random(81);
+    for seed in 0..30 {
+        let (mut delivery, lent) = delivered(seed, 1 + seed % 7, 2 * seed, &mut Met::default());
+        let input = delivery.input(&lent.state().unwrap(), &lent.table);
+        for (lent, input) in [(lent, input), made_up::ripe(&mut random)] {
+            for mut lent in made_up::numbers_in_the_log(&lent) {
+                let written = lent.kiosk.log;
+                let (reply, fired) = SIDES.put(&input, &mut lent);
+                for (round, (is, was)) in (0..).zip(reply.kiosk.log.iter().zip(&written)) {
+                    if ![input.round, reply.kiosk.round].contains(&round) {
+                        assert_eq!(is, was, "round {round}");
+                    }
+                }
+                met.put(&(reply, fired));
+            }
+        }
+    }
+    met.check("numbers in the log", [0, 1, 2, 5, 6, 8, 9, 10]);
+}
+
+/// A greater number than 2 is a good proposal's, up to settling, and stays; an own proposal is written as 2 over any.
+#[test]
+fn greater_numbers_are_good() {
+    let market = Market {
+        powers: vec![1; 4],
+        own: 0,
+        height: 1,
+    };
+    let mut started = SIDES.opened(&market);
+    SIDES.put(&start(1, 0), &mut started);
+    for number in made_up::NUMBERS {
+        // Round 2 is kiosk 3's turn, and round 3 the own one.
+        let mut lent = started.clone();
+        for round in [2, 3] {
+            lent.kiosk.log[round][heard::PROPOSAL] = number;
+            lent.table[65 * round] = 50;
+        }
+        let mut own = lent.clone();
+        for sender in [1, 2] {
+            let ahead = Input {
+                offer: 50,
+                ..prevote(1, sender, 3, 50)
+            };
+            SIDES.put(&ahead, &mut own);
+        }
+        assert_eq!(own.kiosk.round, 3);
+        assert_eq!(own.kiosk.log[3][heard::PROPOSAL], flat::GOOD);
+        assert_eq!(own.kiosk.log[2][heard::PROPOSAL], number);
+        for sender in [1, 2] {
+            SIDES.put(&prevote(1, sender, 2, 50), &mut lent);
+        }
+        for sender in [1, 2, 3] {
+            SIDES.put(&precommit(1, sender, 2, 50), &mut lent);
+        }
+        let settled = lent.kiosk.phase == flat::SETTLED;
+        assert_eq!(settled, number >= flat::GOOD, "{number}");
+        assert_eq!(lent.kiosk.log[2][heard::PROPOSAL], number);
+    }
 }
 
 /// Refusals 12 and 15 of creating.

@@ -2,6 +2,7 @@
 //! them, and power cuts. For the fuzzer and its kept cases.
 
 use crate::calls::{Lent, Sides};
+use flat::heard;
 use second::Input;
 
 /// Reads on from the front; 0 after the end.
@@ -142,6 +143,17 @@ fn made_up_put(sides: Sides, bytes: &mut Bytes, mut lent: Lent) {
     }
 }
 
+/// The greatest bytes stand for numbers at the edges of a byte and of 32 bits.
+fn wide(byte: u8) -> u32 {
+    match byte {
+        252 => 255,
+        253 => 256,
+        254 => 1 << 31,
+        255 => u32::MAX,
+        _ => byte.into(),
+    }
+}
+
 fn change(bytes: &mut Bytes, lent: &mut Lent) {
     let field = bytes.byte();
     let byte = bytes.byte();
@@ -167,11 +179,11 @@ fn change(bytes: &mut Bytes, lent: &mut Lent) {
         15 => kiosk.backed = byte,
         16 => kiosk.locked_next = byte,
         17 => kiosk.valid_next = byte,
-        18 => kiosk.prevotes[round] ^= marks,
-        19 => kiosk.precommits[round] ^= marks,
-        20 => kiosk.proposals[round] = byte,
-        21 => kiosk.proposals[round] = byte % 4,
-        22 => kiosk.valids[round] = byte,
+        18 => kiosk.log[round][heard::PREVOTES] ^= marks,
+        19 => kiosk.log[round][heard::PRECOMMITS] ^= marks,
+        20 => kiosk.log[round][heard::PROPOSAL] = wide(byte),
+        21 => kiosk.log[round][heard::PROPOSAL] = (byte % 4).into(),
+        22 => kiosk.log[round][heard::VALID] = wide(byte),
         23 | 24 => {
             let place = bytes.pair() % flat::TABLE;
             if let Some(name) = lent.table.get_mut(place) {

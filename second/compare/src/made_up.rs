@@ -3,12 +3,15 @@
 use crate::calls::{Lent, JUNK};
 use crate::inputs;
 use crate::random::Random;
-use flat::{Kiosk, BAD, GOOD, KIOSKS, ROUNDS, TABLE};
+use flat::{heard, Kiosk, BAD, GOOD, KIOSKS, ROUNDS, TABLE};
 use second::Input;
 
 const SIZES: [usize; 11] = [0, 1, 4, 7, 8, 31, 32, 33, 1_000, usize::MAX - 1, usize::MAX];
 const BYTES: [u8; 10] = [0, 1, 2, 3, 14, 15, 16, 17, 254, 255];
 const NAMES: [u64; 4] = [0, 40, 41, u64::MAX];
+
+/// Numbers of the log at the edges: of what is said of a proposal, of a byte, and of their own width.
+pub const NUMBERS: [u32; 8] = [0, BAD, GOOD, 3, 255, 256, 1 << 31, u32::MAX];
 
 /// One number of a state, table or area changed, to one that second's state can hold.
 pub fn change(lent: &mut Lent, random: &mut Random) {
@@ -16,6 +19,7 @@ pub fn change(lent: &mut Lent, random: &mut Random) {
     let size = random.pick(&SIZES);
     let yes = random.below(2) as u8;
     let marks = (1 << random.below(32)) | (1 << random.below(7));
+    let number = random.pick(&NUMBERS);
     let held = (
         random.pick(&[0, 1, 1, 2, 3, byte]),
         random.pick(&[0, 40, 41, 42]),
@@ -41,10 +45,10 @@ pub fn change(lent: &mut Lent, random: &mut Random) {
         11 => kiosk.backed = yes,
         12 => (kiosk.locked_next, kiosk.locked_name) = held,
         13 => (kiosk.valid_next, kiosk.valid_name) = held,
-        14 | 15 => kiosk.proposals[round] = random.below(3) as u8,
-        16 => kiosk.valids[round] = byte,
-        17 => kiosk.prevotes[round] ^= marks,
-        18 => kiosk.precommits[round] ^= marks,
+        14 | 15 => kiosk.log[round][heard::PROPOSAL] = random.pick(&[0, BAD, GOOD, number]),
+        16 => kiosk.log[round][heard::VALID] = random.pick(&[byte.into(), number]),
+        17 => kiosk.log[round][heard::PREVOTES] ^= marks,
+        18 => kiosk.log[round][heard::PRECOMMITS] ^= marks,
         19 => kiosk.used = size,
         20 => kiosk.last = size,
         21 => {
@@ -67,15 +71,13 @@ pub fn change(lent: &mut Lent, random: &mut Random) {
 pub fn unholdable(kiosk: &mut Kiosk, random: &mut Random) {
     let over = |random: &mut Random, most: u8| random.pick(&[most + 1, most + 2, 128, 255]);
     let flag = over(random, 1);
-    let round = random.below(16);
-    match random.below(8) {
+    match random.below(7) {
         0 => kiosk.phase = over(random, 2),
         1 => kiosk.step = over(random, 2),
         2 => kiosk.asked_propose = flag,
         3 => kiosk.asked_prevote = flag,
         4 => kiosk.asked_precommit = flag,
         5 => kiosk.backed = flag,
-        6 => kiosk.proposals[round] = over(random, 2),
         _ => {
             kiosk.phase = random.below(2) as u8;
             kiosk.settled = random.pick(&[1, 15, 16, 255]);
@@ -93,6 +95,14 @@ fn number(random: &mut Random, most: usize) -> usize {
 
 fn byte(random: &mut Random, most: usize) -> u8 {
     number(random, most) as u8
+}
+
+/// A number of the log: from 0 to `most`, now and then any or one at the edges.
+fn wide(random: &mut Random, most: usize) -> u32 {
+    if random.once_in(10) {
+        return random.pick(&NUMBERS);
+    }
+    number(random, most) as u32
 }
 
 /// Whose turn the round is, on any roll.
@@ -147,10 +157,10 @@ pub fn uniform(random: &mut Random) -> Lent {
         if !random.once_in(quiet) {
             continue;
         }
-        kiosk.prevotes[round] = (random.number() & random.number()) as u32 & seats;
-        kiosk.precommits[round] = (random.number() & random.number()) as u32 & seats;
-        kiosk.proposals[round] = byte(random, 2);
-        kiosk.valids[round] = byte(random, round);
+        kiosk.log[round][heard::PREVOTES] = (random.number() & random.number()) as u32 & seats;
+        kiosk.log[round][heard::PRECOMMITS] = (random.number() & random.number()) as u32 & seats;
+        kiosk.log[round][heard::PROPOSAL] = wide(random, 2);
+        kiosk.log[round][heard::VALID] = wide(random, round);
         table[65 * round..65 * (round + 1)].fill_with(|| random.pick(&[0, 40, 40, 41]));
     }
     let area = kiosk.used.min(1_000) + random.pick(&[0, 25, 26, 38, 50, 100]);
@@ -213,10 +223,16 @@ pub fn ripe(random: &mut Random) -> (Lent, Input) {
             let (one, other) = (random.number() as u32, random.number() as u32);
             seats & if dense { one | other } else { one & other }
         };
-        lent.kiosk.prevotes[at] = marks(near);
-        lent.kiosk.precommits[at] = marks(false);
-        lent.kiosk.proposals[at] = random.pick(&[0, 0, 0, 0, 0, 0, BAD, GOOD, GOOD]);
-        lent.kiosk.valids[at] = random.below(at + 1) as u8;
+        lent.kiosk.log[at][heard::PREVOTES] = marks(near);
+        lent.kiosk.log[at][heard::PRECOMMITS] = marks(false);
+        let number = random.pick(&NUMBERS);
+        let proposal = random.pick(&[0, 0, 0, 0, 0, 0, BAD, GOOD, number.max(GOOD)]);
+        // What is not heard has any valid round.
+        lent.kiosk.log[at][heard::VALID] = match proposal {
+            0 => number,
+            _ => random.below(at + 1) as u32,
+        };
+        lent.kiosk.log[at][heard::PROPOSAL] = proposal;
         let names = &mut lent.table[65 * at..65 * (at + 1)];
         names.fill_with(|| random.pick(&[40, 40, 40, 40, 40, 40, 41, 0]));
         names[0] = names[0].max(40);
@@ -247,6 +263,32 @@ pub fn ripe(random: &mut Random) -> (Lent, Input) {
     };
     input.offer = random.pick(&NAMES);
     (lent, input)
+}
+
+/// What is lent, once for each two of `NUMBERS` as a round's proposal and its valid round, with a name for it; and once for
+/// each as a round's marks.
+pub fn numbers_in_the_log(lent: &Lent) -> Vec<Lent> {
+    let mut all = vec![];
+    let mut add = |round: usize, written: [Option<u32>; 4]| {
+        let mut lent = lent.clone();
+        for (place, number) in lent.kiosk.log[round].iter_mut().zip(written) {
+            *place = number.unwrap_or(*place);
+        }
+        if written[heard::PROPOSAL].is_some() {
+            lent.table[65 * round] = lent.table[65 * round].max(40);
+        }
+        all.push(lent);
+    };
+    for round in 0..ROUNDS {
+        for one in NUMBERS.map(Some) {
+            for other in NUMBERS.map(Some) {
+                add(round, [None, None, one, other]);
+            }
+            add(round, [one, None, None, None]);
+            add(round, [None, one, None, None]);
+        }
+    }
+    all
 }
 
 /// An input with every number picked alone, the sender of a proposal aside.

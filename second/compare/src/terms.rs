@@ -32,35 +32,19 @@ pub fn flat_state(state: &State) -> Kiosk {
         backed: state.backed.into(),
         locked_next: state.locked.next,
         valid_next: state.valid.next,
-        prevotes: state.rounds.map(|heard| heard.prevotes),
-        precommits: state.rounds.map(|heard| heard.precommits),
-        proposals: state
-            .rounds
-            .map(|heard| match (heard.proposal, heard.good) {
-                (false, _) => 0,
-                (true, false) => flat::BAD,
-                (true, true) => flat::GOOD,
-            }),
-        valids: state.rounds.map(|heard| heard.valid),
+        log: state.rounds.map(|heard| {
+            [
+                heard.prevotes,
+                heard.precommits,
+                heard.proposal,
+                heard.valid,
+            ]
+        }),
     }
 }
 
 /// None where a number is one that second's state cannot hold: refusal 1.
 pub fn state(kiosk: &Kiosk) -> Option<State> {
-    let mut rounds = State::unopened().rounds;
-    for (round, heard) in rounds.iter_mut().enumerate() {
-        let proposal = kiosk.proposals[round];
-        if proposal > flat::GOOD {
-            return None;
-        }
-        *heard = Heard {
-            proposal: proposal != 0,
-            good: proposal == flat::GOOD,
-            valid: kiosk.valids[round],
-            prevotes: kiosk.prevotes[round],
-            precommits: kiosk.precommits[round],
-        };
-    }
     Some(State {
         kiosks: kiosk.kiosks,
         powers: kiosk.powers,
@@ -91,7 +75,14 @@ pub fn state(kiosk: &Kiosk) -> Option<State> {
             next: kiosk.valid_next,
             name: kiosk.valid_name,
         },
-        rounds,
+        rounds: kiosk
+            .log
+            .map(|[prevotes, precommits, proposal, valid]| Heard {
+                proposal,
+                valid,
+                prevotes,
+                precommits,
+            }),
         used: kiosk.used,
         last: kiosk.last,
     })

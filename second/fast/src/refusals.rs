@@ -4,7 +4,7 @@ use crate::journal;
 use crate::rules::{self, place, PRECOMMITS, PREVOTES};
 use crate::rules::{proposer, Weights};
 use flat::{
-    Input, Kiosk, BAD, FRESH, GOOD, KIOSKS, PRECOMMIT, PREVOTE, PROPOSE, ROUNDS, RUNNING, SETTLED,
+    heard, Input, Kiosk, FRESH, KIOSKS, PRECOMMIT, PREVOTE, PROPOSE, ROUNDS, RUNNING, SETTLED,
     TABLE,
 };
 
@@ -51,20 +51,16 @@ fn held_allowed(next: u8, name: u64, round: u8) -> bool {
 /// No mark past the roll, and each proposal one that can be.
 fn log_allowed(kiosk: &Kiosk, table: &[u64; TABLE]) -> bool {
     let off_roll = u32::MAX.checked_shl(kiosk.kiosks as u32).unwrap_or(0);
-    let votes = kiosk.prevotes.iter().chain(&kiosk.precommits);
-    votes.fold(0, |all, marks| all | marks) & off_roll == 0
-        && (0..ROUNDS).all(|round| match kiosk.proposals[round] {
-            0 => true,
-            BAD | GOOD => usize::from(kiosk.valids[round]) <= round && table[place(round)] != 0,
-            _ => false,
-        })
+    let mut rounds = kiosk.log.iter().enumerate();
+    rounds.all(|(round, &[prevotes, precommits, proposal, valid])| {
+        (prevotes | precommits) & off_roll == 0
+            && (proposal == 0 || valid <= round as u32 && table[place(round)] != 0)
+    })
 }
 
 fn untouched(kiosk: &Kiosk, table: &[u64; TABLE]) -> bool {
     kiosk.round | kiosk.locked_next | kiosk.valid_next == 0
-        && kiosk.prevotes == [0; ROUNDS]
-        && kiosk.precommits == [0; ROUNDS]
-        && kiosk.proposals == [0; ROUNDS]
+        && kiosk.log.iter().all(|[heard @ .., _]| *heard == [0; 3])
         && table.iter().fold(0, |all, name| all | name) == 0
 }
 
@@ -95,16 +91,17 @@ pub fn refused(kiosk: &Kiosk, table: &[u64; TABLE], input: &Input) -> u32 {
                         return 7;
                     }
                     (
-                        kiosk.proposals[round] != 0,
-                        table[place(round)] == input.name && kiosk.valids[round] == input.valid,
+                        kiosk.log[round][heard::PROPOSAL] != 0,
+                        table[place(round)] == input.name
+                            && kiosk.log[round][heard::VALID] == u32::from(input.valid),
                     )
                 }
                 3 => (
-                    kiosk.prevotes[round] >> seat & 1 == 1,
+                    kiosk.log[round][heard::PREVOTES] >> seat & 1 == 1,
                     table[place(round) + PREVOTES + seat] == input.name,
                 ),
                 _ => (
-                    kiosk.precommits[round] >> seat & 1 == 1,
+                    kiosk.log[round][heard::PRECOMMITS] >> seat & 1 == 1,
                     table[place(round) + PRECOMMITS + seat] == input.name,
                 ),
             };

@@ -1,8 +1,8 @@
 //! Algorithm 1 of 003 with the house rules of 01, on seat marks.
 
 use flat::{
-    Input, Kiosk, Output, BAD, GOOD, KIOSKS, PRECOMMIT, PREVOTE, PROPOSE, ROUNDS, RUNNING, SENT,
-    SETTLED, TABLE,
+    heard, Input, Kiosk, Output, BAD, GOOD, KIOSKS, PRECOMMIT, PREVOTE, PROPOSE, ROUNDS, RUNNING,
+    SENT, SETTLED, TABLE,
 };
 
 /// Where the votes of a round stand after its first place.
@@ -66,19 +66,26 @@ fn large_for(
 #[derive(Clone, Copy)]
 pub enum Rule {
     L22,
-    L28 { vr: u8 },
+    /// The valid round plus one.
+    L28 {
+        valid: u32,
+    },
     L34,
     L36,
     L44,
     L47,
-    L49 { round: usize },
-    L55 { round: usize },
+    L49 {
+        round: usize,
+    },
+    L55 {
+        round: usize,
+    },
 }
 
 /// The first rule that applies to a running kiosk.
 pub fn applies(kiosk: &Kiosk, table: &[u64; TABLE], weights: &Weights) -> Option<Rule> {
     let round = usize::from(kiosk.round);
-    let proposal = kiosk.proposals[round];
+    let proposal = kiosk.log[round][heard::PROPOSAL];
     let sheet = table[place(round)];
     let prevotes_for = |round: usize, name| {
         let from = place(round) + PREVOTES;
@@ -86,43 +93,44 @@ pub fn applies(kiosk: &Kiosk, table: &[u64; TABLE], weights: &Weights) -> Option
             kiosk,
             table,
             weights.large,
-            kiosk.prevotes[round],
+            kiosk.log[round][heard::PREVOTES],
             from,
             name,
         )
     };
     if kiosk.step == PROPOSE {
         if proposal != 0 {
-            let valid = kiosk.valids[round];
+            let valid = kiosk.log[round][heard::VALID];
             if valid == 0 {
                 return Some(Rule::L22);
             }
-            let vr = valid - 1;
-            if prevotes_for(usize::from(vr), sheet) {
-                return Some(Rule::L28 { vr });
+            if prevotes_for(valid as usize - 1, sheet) {
+                return Some(Rule::L28 { valid });
             }
         }
     } else {
         let prevote = kiosk.step == PREVOTE;
         if prevote
             && kiosk.asked_prevote == 0
-            && power(kiosk, kiosk.prevotes[round]) > weights.large
+            && power(kiosk, kiosk.log[round][heard::PREVOTES]) > weights.large
         {
             return Some(Rule::L34);
         }
-        if kiosk.backed == 0 && proposal == GOOD && prevotes_for(round, sheet) {
+        if kiosk.backed == 0 && proposal >= GOOD && prevotes_for(round, sheet) {
             return Some(Rule::L36);
         }
         if prevote && prevotes_for(round, 0) {
             return Some(Rule::L44);
         }
     }
-    if kiosk.asked_precommit == 0 && power(kiosk, kiosk.precommits[round]) > weights.large {
+    if kiosk.asked_precommit == 0
+        && power(kiosk, kiosk.log[round][heard::PRECOMMITS]) > weights.large
+    {
         return Some(Rule::L47);
     }
-    for (round, &marks) in kiosk.precommits.iter().enumerate() {
+    for (round, &[_, marks, proposal, _]) in kiosk.log.iter().enumerate() {
         let from = place(round) + PRECOMMITS;
-        if kiosk.proposals[round] == GOOD
+        if proposal >= GOOD
             && large_for(
                 kiosk,
                 table,
@@ -136,8 +144,8 @@ pub fn applies(kiosk: &Kiosk, table: &[u64; TABLE], weights: &Weights) -> Option
         }
     }
     for round in (round + 1..ROUNDS).rev() {
-        let mut senders = kiosk.prevotes[round] | kiosk.precommits[round];
-        if kiosk.proposals[round] != 0 {
+        let mut senders = kiosk.log[round][heard::PREVOTES] | kiosk.log[round][heard::PRECOMMITS];
+        if kiosk.log[round][heard::PROPOSAL] != 0 {
             senders |= 1 << proposer(kiosk, round);
         }
         if power(kiosk, senders) > weights.some {
@@ -192,16 +200,16 @@ impl<'a> Call<'a> {
                 self.start_round(0);
             }
             2 => {
-                self.kiosk.proposals[round] = BAD + input.verdict;
-                self.kiosk.valids[round] = input.valid;
+                self.kiosk.log[round][heard::PROPOSAL] = BAD + u32::from(input.verdict);
+                self.kiosk.log[round][heard::VALID] = input.valid.into();
                 self.write(place(round), input.name);
             }
             3 => {
-                self.kiosk.prevotes[round] |= mark;
+                self.kiosk.log[round][heard::PREVOTES] |= mark;
                 self.write(place(round) + PREVOTES + seat, input.name);
             }
             4 => {
-                self.kiosk.precommits[round] |= mark;
+                self.kiosk.log[round][heard::PRECOMMITS] |= mark;
                 self.write(place(round) + PRECOMMITS + seat, input.name);
             }
             5 => self.prevote(0),
@@ -232,9 +240,10 @@ impl<'a> Call<'a> {
                 let free = self.kiosk.locked_next == 0 || self.kiosk.locked_name == sheet;
                 self.prevote_on(free, sheet);
             }
-            Rule::L28 { vr } => {
+            Rule::L28 { valid } => {
                 // Round plus one: no lock is 0.
-                let free = self.kiosk.locked_next <= vr + 1 || self.kiosk.locked_name == sheet;
+                let next = u32::from(self.kiosk.locked_next);
+                let free = next <= valid || self.kiosk.locked_name == sheet;
                 self.prevote_on(free, sheet);
             }
             Rule::L34 => {
@@ -289,20 +298,20 @@ impl<'a> Call<'a> {
             self.send(4, 0, 0);
             return;
         }
-        self.kiosk.proposals[at] = GOOD;
-        self.kiosk.valids[at] = valid;
+        self.kiosk.log[at][heard::PROPOSAL] = GOOD;
+        self.kiosk.log[at][heard::VALID] = valid.into();
         self.write(place(at), name);
         self.send(1, valid, name);
     }
 
     fn prevote_on(&mut self, free: bool, sheet: u64) {
-        let good = self.kiosk.proposals[usize::from(self.kiosk.round)] == GOOD;
+        let good = self.kiosk.log[usize::from(self.kiosk.round)][heard::PROPOSAL] >= GOOD;
         self.prevote(if good && free { sheet } else { 0 });
     }
 
     fn prevote(&mut self, name: u64) {
         let (round, own) = (usize::from(self.kiosk.round), self.kiosk.own);
-        self.kiosk.prevotes[round] |= 1 << own;
+        self.kiosk.log[round][heard::PREVOTES] |= 1 << own;
         self.kiosk.step = PREVOTE;
         self.write(place(round) + PREVOTES + own, name);
         self.send(2, 0, name);
@@ -310,7 +319,7 @@ impl<'a> Call<'a> {
 
     fn precommit(&mut self, name: u64) {
         let (round, own) = (usize::from(self.kiosk.round), self.kiosk.own);
-        self.kiosk.precommits[round] |= 1 << own;
+        self.kiosk.log[round][heard::PRECOMMITS] |= 1 << own;
         self.kiosk.step = PRECOMMIT;
         self.write(place(round) + PRECOMMITS + own, name);
         self.send(3, 0, name);

@@ -1,6 +1,7 @@
 //! Fast and second, call by call: random deliveries with cuts and damage, and made-up states.
 
-use compare::{made_up, Delivery, Met, Random, Sides, AIMS, FAST};
+use compare::inputs::{prevote, start};
+use compare::{made_up, Delivery, Market, Met, Random, Sides, AIMS, FAST};
 
 const SIDES: Sides = Sides(&[FAST]);
 
@@ -55,4 +56,46 @@ fn made_up() {
         }
     }
     met.check("made up", 0..=12);
+}
+
+/// In states that calls left, and near a rule.
+#[test]
+fn numbers_in_the_log() {
+    let mut met = Met::default();
+    let mut random = Random(81);
+    for seed in 0..30 {
+        let mut delivery = Delivery::new(seed as u64, AIMS[seed % 4]);
+        let mut lent = SIDES.opened(&delivery.market(1 + seed % 7));
+        SIDES.deliver(&mut delivery, &mut lent, 2 * seed, &mut Met::default());
+        let input = delivery.input(&lent.state().unwrap(), &lent.table);
+        for (lent, input) in [(lent, input), made_up::ripe(&mut random)] {
+            for mut lent in made_up::numbers_in_the_log(&lent) {
+                met.put(&SIDES.put(&input, &mut lent));
+            }
+        }
+    }
+    met.check("numbers in the log", [0, 1, 2, 5, 6, 8, 9, 10]);
+}
+
+/// And where the next round is the own turn: the number under which its proposal is held already is written over.
+#[test]
+fn numbers_under_an_own_proposal() {
+    let market = Market {
+        powers: vec![1; 4],
+        own: 0,
+        height: 1,
+    };
+    let mut lent = SIDES.opened(&market);
+    SIDES.put(&start(1, 0), &mut lent);
+    let mut input = prevote(1, 1, 3, 50);
+    input.offer = 40;
+    let mut proposed = 0;
+    for mut lent in made_up::numbers_in_the_log(&lent) {
+        let (reply, _) = SIDES.put(&input, &mut lent);
+        if reply.sent[0].kind == 1 {
+            proposed += 1;
+            assert_eq!(reply.kiosk.log[3][2..], [flat::GOOD, 0]);
+        }
+    }
+    assert!(proposed > 0);
 }

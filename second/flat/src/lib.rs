@@ -17,9 +17,19 @@ pub const PROPOSE: u8 = 0;
 pub const PREVOTE: u8 = 1;
 pub const PRECOMMIT: u8 = 2;
 
-/// What `Kiosk::proposals` says beside 0, that none is heard: one with verdict 0, and one with verdict 1.
-pub const BAD: u8 = 1;
-pub const GOOD: u8 = 2;
+/// What a proposal in `Kiosk::log` says beside 0, that none is heard: one with verdict 0, and one with verdict 1, which
+/// every greater number says too.
+pub const BAD: u32 = 1;
+pub const GOOD: u32 = 2;
+
+/// The places of a round's numbers in `Kiosk::log`.
+pub mod heard {
+    pub const PREVOTES: usize = 0;
+    pub const PRECOMMITS: usize = 1;
+    pub const PROPOSAL: usize = 2;
+    /// The proposal's valid round plus one.
+    pub const VALID: usize = 3;
+}
 
 /// The default is the unopened state.
 #[repr(C)]
@@ -43,10 +53,8 @@ pub struct Kiosk {
     pub backed: u8,
     pub locked_next: u8,
     pub valid_next: u8,
-    pub prevotes: [u32; ROUNDS],
-    pub precommits: [u32; ROUNDS],
-    pub proposals: [u8; ROUNDS],
-    pub valids: [u8; ROUNDS],
+    /// What is heard of each round: the four numbers of `heard`.
+    pub log: [[u32; 4]; ROUNDS],
 }
 
 #[repr(C)]

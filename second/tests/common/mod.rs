@@ -131,7 +131,8 @@ impl Bench {
     pub fn check_rest(&mut self) {
         for (r, heard) in self.state.rounds.iter().enumerate() {
             let names = &self.table[65 * r..65 * (r + 1)];
-            assert!(heard.proposal || (names[0] == 0 && !heard.good && heard.valid == 0));
+            assert!(heard.proposal <= 2);
+            assert!(heard.proposal != 0 || (names[0] == 0 && heard.valid == 0));
             for seat in 0..SEATS {
                 assert!(heard.prevotes & (1 << seat) != 0 || names[1 + seat] == 0);
                 assert!(heard.precommits & (1 << seat) != 0 || names[33 + seat] == 0);

@@ -5,9 +5,9 @@ const HEAD: &str = "\
 use Prim.Native.Nat.{ℕ}
 use mathlib.Core.List.{List, [], _∷_}
 use Rattle.rules.proofs.Whole.{at, spread, table, roll, held, log}
-use Rattle.flat.specs.declared.FlatKiosk.{FlatKiosk}
-use Rattle.flat.specs.declared.FlatInput.{FlatInput}
-use Rattle.flat.specs.declared.FlatReply.{FlatReply}
+use Rattle.board.specs.declared.FlatKiosk.{FlatKiosk}
+use Rattle.board.specs.declared.FlatInput.{FlatInput}
+use Rattle.board.specs.declared.FlatReply.{FlatReply}
 use Rattle.board.specs.declared.FlatMade.{FlatMade}
 use Rattle.board.specs.declared.FlatPart.{FlatPart}
 use Rattle.examples.specs.Cases.{Call, puts, Opening, opens, Creating, creates, Showing, shows}
@@ -61,10 +61,12 @@ impl File {
     pub fn text(&self) -> String {
         [
             HEAD.to_string(),
-            self.calls.declared("calls", "Call FlatInput FlatKiosk FlatReply"),
+            self.calls
+                .declared("calls", "Call FlatInput FlatKiosk FlatReply"),
             self.openings.declared("openings", "Opening FlatReply"),
             self.creatings.declared("creatings", "Creating FlatMade"),
-            self.showings.declared("showings", "Showing FlatKiosk ℕ FlatPart"),
+            self.showings
+                .declared("showings", "Showing FlatKiosk ℕ FlatPart"),
             FOOT.to_string(),
         ]
         .concat()

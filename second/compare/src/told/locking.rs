@@ -2,6 +2,7 @@
 
 use super::scene::{four, seven, three, uneven, wide, Scene, Vote, LONG, MOST};
 use super::teller::Teller;
+use flat::heard;
 
 pub fn tell(tell: &mut Teller) {
     tell.file
@@ -183,7 +184,7 @@ fn line_44(tell: &mut Teller) {
     let precommits = scene.precommits(1, &[(0, 77), (1, 50), (3, 0)]);
     tell.fires(
         &[34, 44, 47],
-        &precommits.with(|k| k.precommits[1] = 0b1010),
+        &precommits.with(|k| k.log[1][heard::PRECOMMITS] = 0b1010),
         input,
     );
     let own = four().round(2).prevotes(2, &[(1, 0), (2, 0)]);

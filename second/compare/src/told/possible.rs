@@ -2,7 +2,7 @@
 
 use super::scene::{four, fresh, running, uneven, Scene, LONG};
 use super::teller::Teller;
-use flat::Kiosk;
+use flat::{heard, Kiosk};
 
 pub fn tell(tell: &mut Teller) {
     tell.file
@@ -16,6 +16,7 @@ pub fn tell(tell: &mut Teller) {
     proposals(tell);
     not_started(tell);
     numbers_that_say_nothing(tell);
+    greater_numbers(tell);
 }
 
 /// A state that an input of round 14 shows to be possible.
@@ -148,7 +149,7 @@ fn proposals(tell: &mut Teller) {
     lets_in(tell, &four().at_prevote().good(0, 7, -1));
     shuts_out(tell, &four().at_prevote().bad(0, 0, -1));
     // What is not heard may hold anything.
-    lets_in(tell, &four().with(|k| k.valids[5] = 255));
+    lets_in(tell, &four().with(|k| k.log[5][heard::VALID] = u32::MAX));
 }
 
 /// "Not started yet with anything heard, a table place not 0, a round not 0, or a lock or valid sheet held".
@@ -170,10 +171,9 @@ fn not_started(tell: &mut Teller) {
     lets_in(tell, &uneven().named(0, 1).named(1_039, 1));
 }
 
-/// A phase and a step that there are, a settled round only where settled, each mark 0 or 1, and a proposal none, bad or
-/// good.
+/// A phase and a step that there are, a settled round only where settled, and each mark 0 or 1.
 fn numbers_that_say_nothing(tell: &mut Teller) {
-    let changes: [fn(&mut Kiosk); 9] = [
+    let changes: [fn(&mut Kiosk); 8] = [
         |k| k.phase = 3,
         |k| k.settled = 1,
         |k| (k.phase, k.settled) = (flat::FRESH, 1),
@@ -182,10 +182,14 @@ fn numbers_that_say_nothing(tell: &mut Teller) {
         |k| k.asked_prevote = 2,
         |k| k.asked_precommit = 2,
         |k| k.backed = 2,
-        |k| k.proposals[2] = 3,
     ];
     for change in changes {
         let scene = four().named(65 * 2, 7).with(change);
         tell.cannot_be(&scene, scene.prevote(1, 14, 5));
     }
+}
+
+/// A proposal that is heard under a greater number than 2 is a good one.
+fn greater_numbers(tell: &mut Teller) {
+    lets_in(tell, &four().proposed(2, 7, -1, 3));
 }

@@ -2,6 +2,7 @@
 
 use super::scene::{four, seven, uneven, wide, Scene, LONG, MOST};
 use super::teller::Teller;
+use flat::heard;
 
 pub fn tell(tell: &mut Teller) {
     tell.file
@@ -96,7 +97,9 @@ fn line_28_waits(tell: &mut Teller) {
     let unheard = two_of_four(0).named(1 + 3, 50);
     tell.fires(&[], &unheard, unheard.proposal(2, 50, 0, 1));
     // What stands in the place of a proposal that is not heard is none.
-    let silent = two_of_four(0).named(65 * 2, 50).with(|k| k.valids[2] = 1);
+    let silent = two_of_four(0)
+        .named(65 * 2, 50)
+        .with(|k| k.log[2][heard::VALID] = 1);
     tell.fires(&[], &silent, silent.prevote(3, 0, 50));
     let exact = uneven().round(4).prevotes(1, &[(0, 50), (1, 50), (3, 50)]);
     tell.fires(&[], &exact, exact.proposal(4, 50, 1, 1));

@@ -2,6 +2,7 @@
 
 use super::scene::{four, fresh, offering, seven, three, uneven, wide, Scene, LONG, MOST};
 use super::teller::Teller;
+use flat::heard;
 use second::Input;
 
 pub fn tell(tell: &mut Teller) {
@@ -81,7 +82,7 @@ fn heard_proposals(tell: &mut Teller) {
     tell.refuses(9, &scene, scene.proposal(4, LONG, 1, 0));
     tell.refuses(9, &scene, scene.proposal(4, LONG - 1, -1, 0));
     // A name that stands in a place that is not heard is none.
-    let unheard = scene.named(65 * 6, 50).with(|k| k.valids[6] = 1);
+    let unheard = scene.named(65 * 6, 50).with(|k| k.log[6][heard::VALID] = 1);
     tell.fires(&[], &unheard, unheard.proposal(6, 50, 0, 1));
     tell.fires(&[], &unheard, unheard.proposal(6, 51, 0, 0));
 }

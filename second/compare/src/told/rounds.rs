@@ -4,6 +4,7 @@ use super::scene::{
     four, fresh, heavy, offering, running, seven, three, uneven, wide, Scene, LONG, MOST,
 };
 use super::teller::Teller;
+use flat::heard;
 
 pub fn tell(tell: &mut Teller) {
     tell.file
@@ -113,7 +114,7 @@ fn whole_rounds(tell: &mut Teller) {
     let half = running(&[3, 2, 1], 0, 6)
         .prevotes(1, &[(1, 70)])
         .precommits(1, &[(1, 70)]);
-    let with = half.clone().good(1, 70, -1);
+    let with = half.clone().proposed(1, 70, -1, 3);
     let chain = [55, 22, 34, 36, 47, 49];
     tell.fires(&chain, &with, with.prevote(2, 1, 70));
     let own = half
@@ -129,7 +130,7 @@ fn whole_rounds(tell: &mut Teller) {
     tell.fires(&[55, 47], &alone, alone.precommit(2, 6, 50));
     let valid = heavy()
         .round(3)
-        .good(4, 80, 1)
+        .proposed(4, 80, 1, u32::MAX)
         .prevotes(1, &[(2, 80)])
         .locked(0, 50);
     tell.fires(&[55, 28, 47], &valid, valid.precommit(2, 4, 81));
@@ -147,8 +148,8 @@ fn start(tell: &mut Teller) {
     // What 01 does not name in a state that has not started: marks, a step, and what is not heard or not on the roll.
     let junk = fresh(&[1, 2, 3], 2, 9).marks(1, 1, 1, 1).at_precommit();
     let junk = junk.with(|k| {
-        k.valids[0] = 200;
-        k.valids[9] = 16;
+        k.log[0][heard::VALID] = 200;
+        k.log[9][heard::VALID] = 16;
         k.powers[3] = u16::MAX;
         k.last = 0;
     });

@@ -2,7 +2,7 @@
 
 use crate::inputs;
 use crate::terms::{flat_state, state};
-use flat::{Kiosk, BAD, GOOD, KIOSKS, TABLE};
+use flat::{heard, Kiosk, BAD, GOOD, KIOSKS, TABLE};
 use second::Input;
 
 #[derive(Clone)]
@@ -166,16 +166,17 @@ impl Scene {
         self.proposed(round, name, vr, BAD)
     }
 
-    fn proposed(self, round: usize, name: u64, vr: i8, verdict: u8) -> Scene {
+    /// `proposal` is what the log has of it: 1 for a bad one, any greater number for a good one.
+    pub fn proposed(self, round: usize, name: u64, vr: i8, proposal: u32) -> Scene {
         self.named(65 * round, name).with(|k| {
-            k.proposals[round] = verdict;
-            k.valids[round] = (vr + 1) as u8;
+            k.log[round][heard::PROPOSAL] = proposal;
+            k.log[round][heard::VALID] = (vr + 1) as u32;
         })
     }
 
     pub fn prevotes(mut self, round: usize, votes: &[Vote]) -> Scene {
         for &(seat, name) in votes {
-            self.kiosk.prevotes[round] |= 1 << seat;
+            self.kiosk.log[round][heard::PREVOTES] |= 1 << seat;
             self.table[65 * round + 1 + seat] = name;
         }
         self
@@ -183,7 +184,7 @@ impl Scene {
 
     pub fn precommits(mut self, round: usize, votes: &[Vote]) -> Scene {
         for &(seat, name) in votes {
-            self.kiosk.precommits[round] |= 1 << seat;
+            self.kiosk.log[round][heard::PRECOMMITS] |= 1 << seat;
             self.table[65 * round + 33 + seat] = name;
         }
         self

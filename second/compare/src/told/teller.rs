@@ -80,7 +80,7 @@ impl Teller {
     }
 
     /// Refusal 1 for a number that second's state cannot hold: a phase or step that there is not, a settled round where
-    /// not settled, a mark that is neither 0 nor 1, or a number that says nothing of a proposal.
+    /// not settled, or a mark that is neither 0 nor 1.
     #[track_caller]
     pub fn cannot_be(&mut self, scene: &Scene, input: Input) {
         assert!(state(&scene.kiosk).is_none());

@@ -1,6 +1,6 @@
 //! Numbers, states and replies in the words of crates/rules/proofs/Whole.antt and crates/examples/specs/Flat.antt.
 
-use flat::{Kiosk, Output, Reply, TABLE};
+use flat::{heard, Kiosk, Output, Reply, TABLE};
 use second::Input;
 
 /// A list, in brackets where it is not empty.
@@ -67,6 +67,7 @@ fn roll(kiosk: &Kiosk) -> String {
 }
 
 pub fn kiosk(kiosk: &Kiosk) -> String {
+    let by_round = |place: usize| spots(&kiosk.log.map(|heard| heard[place]));
     format!(
         "(kiosk {} {} {} {} {} {} {} {} {} (held {} {}) (held {} {}) (log {} {} {} {}) {} {})",
         roll(kiosk),
@@ -82,10 +83,10 @@ pub fn kiosk(kiosk: &Kiosk) -> String {
         kiosk.locked_name,
         kiosk.valid_next,
         kiosk.valid_name,
-        spots(&kiosk.prevotes),
-        spots(&kiosk.precommits),
-        spots(&kiosk.proposals),
-        spots(&kiosk.valids),
+        by_round(heard::PREVOTES),
+        by_round(heard::PRECOMMITS),
+        by_round(heard::PROPOSAL),
+        by_round(heard::VALID),
         kiosk.used,
         kiosk.last
     )

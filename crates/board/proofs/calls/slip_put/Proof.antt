@@ -1,8 +1,8 @@
 -- `board::calls::slip_put` meets its contract. Assumes nothing.
-use borrow.Author.Needs.{needs}
 use mathlib.Core.Path.{sym, _∙_}
 use borrow.Author.Tests.{not-true, not-false}
 use Rattle.board.proofs.Through.{says, says-1}
+use borrow.Author.Needs.{needs}
 use Rattle.board.proofs.calls.slip_put.Statement.{statement}
 use Rattle.board.proofs.calls.slip_put.Tie as tie
 
@@ -18,8 +18,8 @@ returns c = says-1 _ _ _ _ _ (sym (c .before .before .holds .ensures) ∙ not-tr
 roll-of-requires : tie.Need-roll-of-requires
 roll-of-requires c κs = search needs
 
-votes-of-requires : tie.Need-votes-of-requires
-votes-of-requires c κs = search needs
+course-of-requires : tie.Need-course-of-requires
+course-of-requires c κs = search needs
 
 input-of-requires : tie.Need-input-of-requires
 input-of-requires c κs = search needs
@@ -38,16 +38,8 @@ same-length-2 c = search needs
 
 returns-2 : tie.Need-returns-2
 returns-2 c =
-    let lent = c .before .before .before .before .before in
-    let twins = lent .before .before .before .before .before .before .before in
-    let roll = twins .before .before .before .before .before .before in
-    says _ _ _ _ _ _ _ _ _ _ _
-    (sym (roll .before .before .holds .ensures) ∙ not-false _ (roll .before .if1 .left))
-    (twins .input-of .ensures)
-    (roll .roll-of .ensures)
-    (twins .before .votes-of .ensures)
-    (lent .put-lent .ensures)
-    (c .flat-done .ensures)
+    says _ _ _ _ _ _ _ _ _ _ _ (sym (c .before .before .before .before .before .before .before .before .before .before .before .before .before .before .holds .ensures) ∙ not-false _ (c .before .before .before .before .before .before .before .before .before .before .before .before .before .if1 .left)) (c .before .before .before .before .before .before .before .before .before .input-of .ensures) (c .before .before .before .before .before .before .before .before .before .before .before .before .roll-of .ensures)
+    (c .before .before .before .before .before .before .before .before .before .before .course-of .ensures) (c .before .before .before .before .before .put-lent .ensures) (c .flat-done .ensures)
 
 pub slip-put-spec : {M : Type 1} → statement M
 slip-put-spec =
@@ -57,7 +49,7 @@ slip-put-spec =
     impossible-requires
     returns
     roll-of-requires
-    votes-of-requires
+    course-of-requires
     input-of-requires
     put-lent-requires
     flat-done-requires

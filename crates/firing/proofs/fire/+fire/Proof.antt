@@ -14,18 +14,18 @@ use Rattle.applies.proofs.when.first_rule.Reads as first-rule-reads
 use Rattle.firing.proofs.fire.act_on.Reads as act-on-reads
 use Rattle.firing.proofs.fire.hear_own.Reads as hear-own-reads
 use Rattle.rules.proofs.Sent.send.Reads as send-reads
-use Rattle.rules.proofs.tests.is_rule.Reads as is-rule-reads
+use Rattle.rules.proofs.enums.is_rule.Reads as is-rule-reads
 use Rattle.firing.proofs.fire.+fire.{statement}
 use Rattle.firing.proofs.fire.+fire.Tie.{close}
 
-abbrev μ-fire : Measures 7 fire-kinds.ps ℕ
-μ-fire κs a = a .1 .1 .1 .1 .1 .1 .1 .1 .1 .0
+abbrev μ-fire : Measures 3 fire-kinds.ps ℕ
+μ-fire κs a = a .1 .1 .1 .1 .0
 
-abbrev fire-at : ℕ → In 7 fire-kinds.ps
-fire-at t = and 7 fire-kinds.ps (is 7 fire-kinds.ps μ-fire t) fire.Pre
+abbrev fire-at : ℕ → In 3 fire-kinds.ps
+fire-at t = and 3 fire-kinds.ps (is 3 fire-kinds.ps μ-fire t) fire.Pre
 
-abbrev fire-below : ℕ → In 7 fire-kinds.ps
-fire-below t = and 7 fire-kinds.ps (falls 7 fire-kinds.ps _<_ μ-fire t) fire.Pre
+abbrev fire-below : ℕ → In 3 fire-kinds.ps
+fire-below t = and 3 fire-kinds.ps (falls 3 fire-kinds.ps _<_ μ-fire t) fire.Pre
 
 fire-act-on-requires : (t : ℕ) → fire-lts.Need-act-on-requires (
   act-on-reads.Asked,
@@ -41,7 +41,9 @@ fire-act-on-requires : (t : ℕ) → fire-lts.Need-act-on-requires (
   fire-below t,
   fire.Post,
 ) (fire-at t) fire.Post
-fire-act-on-requires t c κs = (c .before .before .before .before .before .before .pre .1 .0 .ready, rw (c .before .before .before .before .before .before .pre .1 .1) (first-fits _ _))
+fire-act-on-requires t c κs =
+    let start = c .before .before .before in
+    (start .pre .1 .0 .ready, rw (start .pre .1 .1) (first-fits _ _))
 
 fire-hear-own-requires : (t : ℕ) → fire-lts.Need-hear-own-requires (
   act-on-reads.Asked,
@@ -57,13 +59,14 @@ fire-hear-own-requires : (t : ℕ) → fire-lts.Need-hear-own-requires (
   fire-below t,
   fire.Post,
 ) (fire-at t) fire.Post
-fire-hear-own-requires t c κs = (
-  says-there (c .before .before .before .before .before .before .before .before .before .before .before .act-on .result) (c .before .before .before .before .before .before .before .before .before .before .before .act-on .ensures .1),
-  own-seat _ _ (c .before .before .before .before .before .before .before .before .before .before .before .before .before .before .before .before .before .before .pre .1 .0 .ready),
-  room-to-say (c .before .before .before .before .before .before .before .before .before .before .before .before .before .before .before .before .before .before .args .left) _ _ _ _ _ _ _ _ (c .before .before .before .before .before .before .before .before .before .before .before .act-on .result) (c .before .before .before .before .before .before .before .before .before .before .before .before .before .before .before .before .before .before .pre .1 .0) (c .before .before .before .before .before .before .before .before .before .before .before .before .before .before .before .before .before .before .pre .1 .1) (c .before .before .before .before .before .before .before .before .before .before .before .before .before .before .before .before .before .before .pre .1 .2) (c .before .before .before .before .before .before .before .before .before .before .before .act-on .ensures .0),
-  c .before .before .before .before .before .before .before .before .before .before .before .before .before .before .before .before .before .before .pre .1 .0 .long,
-  c .before .before .before .before .before .before .before .before .before .before .before .before .before .before .before .before .before .before .pre .1 .0 .ready .places,
-)
+fire-hear-own-requires t c κs =
+    let start = c .before .before .before .before .before .before .before .before .before .before .before .before in
+    let the-act-on = c .before .before .before .before .before .before .before .before .act-on in (
+      own-seat _ _ (start .pre .1 .0 .ready),
+      says-there (the-act-on .result) (the-act-on .ensures .1),
+      room-to-say (start .args .left) _ _ _ _ _ _ _ _ (the-act-on .result) (start .pre .1 .0) (start .pre .1 .1) (start .pre .1 .2) (the-act-on .ensures .0),
+      start .pre .1 .0 .long,
+    )
 
 fire-send-requires : (t : ℕ) → fire-lts.Need-send-requires (
   act-on-reads.Asked,
@@ -80,8 +83,10 @@ fire-send-requires : (t : ℕ) → fire-lts.Need-send-requires (
   fire.Post,
 ) (fire-at t) fire.Post
 fire-send-requires t c κs =
-    by-cases (c .before .before .before .before .before .before .before .before .before .before .before .before .before .before .act-on .result .sends)
-    (λ on w. room-to-send (c .before .before .before .before .before .before .before .before .before .before .before .before .before .before .before .before .before .before .before .before .before .args .left) _ _ _ _ _ _ _ _ (c .before .before .before .before .before .before .before .before .before .before .before .before .before .before .act-on .result) (c .before .before .before .before .before .before .before .before .before .before .before .before .before .before .before .before .before .before .before .before .before .pre .1 .0) (c .before .before .before .before .before .before .before .before .before .before .before .before .before .before .before .before .before .before .before .before .before .pre .1 .1) (c .before .before .before .before .before .before .before .before .before .before .before .before .before .before .before .before .before .before .before .before .before .pre .1 .2) (c .before .before .before .before .before .before .before .before .before .before .before .before .before .before .act-on .ensures .0) on)
+    let start = c .before .before .before .before .before .before .before .before .before .before .before .before .before .before .before in
+    let the-act-on = c .before .before .before .before .before .before .before .before .before .before .before .act-on in
+    by-cases (the-act-on .result .sends)
+    (λ on w. room-to-send (start .args .left) _ _ _ _ _ _ _ _ (the-act-on .result) (start .pre .1 .0) (start .pre .1 .1) (start .pre .1 .2) (the-act-on .ensures .0) on)
     (λ off. rw off (λ w. absurd (false≢true w)))
 
 fire-same-length : (t : ℕ) → fire-lts.Need-same-length (
@@ -98,7 +103,7 @@ fire-same-length : (t : ℕ) → fire-lts.Need-same-length (
   fire-below t,
   fire.Post,
 ) (fire-at t) fire.Post
-fire-same-length t c = c .before .before .before .before .hear-own .kept .1 .1 .1 .1 .1 .1 .1 .1 .1 .1 .0
+fire-same-length t c = c .before .before .before .before .hear-own .kept .1 .1 .1 .1 .1 .0
 
 fire-returns : (t : ℕ) → fire-lts.Need-returns (
   act-on-reads.Asked,
@@ -114,7 +119,10 @@ fire-returns : (t : ℕ) → fire-lts.Need-returns (
   fire-below t,
   fire.Post,
 ) (fire-at t) fire.Post
-fire-returns t c = ends-last (c .before .before .before .before .before .before .before .before .before .before .before .before .before .before .before .before .before .before .before .before .before .before .before .args .left) _ _ _ _ _ _ _ _ (c .before .before .before .before .before .before .before .before .before .before .before .before .before .before .before .before .act-on .result) (c .before .before .before .before .before .before .before .before .before .before .before .before .before .before .before .before .before .before .before .before .before .before .before .pre .1 .0) (c .before .before .before .before .before .before .before .before .before .before .before .before .before .before .before .before .before .before .before .before .before .before .before .pre .1 .1) (c .before .before .before .before .before .before .before .before .before .before .before .before .before .before .before .before .before .before .before .before .before .before .before .pre .1 .2) (c .before .before .before .before .before .before .before .before .before .before .before .before .before .before .before .before .act-on .ensures .0) (c .before .before .before .before .hear-own .ensures) (c .before .send .ensures) (c .if1 .taken)
+fire-returns t c =
+    let start = c .before .before .before .before .before .before .before .before .before .before .before .before .before .before .before .before .before in
+    let the-act-on = c .before .before .before .before .before .before .before .before .before .before .before .before .before .act-on in
+    ends-last (start .args .left) _ _ _ _ _ _ _ _ (the-act-on .result) (start .pre .1 .0) (start .pre .1 .1) (start .pre .1 .2) (the-act-on .ensures .0) (c .before .before .before .before .hear-own .ensures) (c .before .send .ensures) (c .if1 .taken)
 
 fire-first-rule-requires : (t : ℕ) → fire-lts.Need-first-rule-requires (
   act-on-reads.Asked,
@@ -130,7 +138,10 @@ fire-first-rule-requires : (t : ℕ) → fire-lts.Need-first-rule-requires (
   fire-below t,
   fire.Post,
 ) (fire-at t) fire.Post
-fire-first-rule-requires t c κs = (firing-next (c .before .before .before .before .before .before .before .before .before .before .before .before .before .before .before .before .before .before .before .before .before .before .before .before .before .before .before .before .args .left) _ _ _ _ _ _ _ _ (c .before .before .before .before .before .before .before .before .before .before .before .before .before .before .before .before .before .before .before .before .before .act-on .result) (c .before .before .before .before .before .before .before .before .before .before .before .before .before .before .before .before .before .before .before .before .before .before .before .before .before .before .before .before .pre .1 .0) (c .before .before .before .before .before .before .before .before .before .before .before .before .before .before .before .before .before .before .before .before .before .before .before .before .before .before .before .before .pre .1 .1) (c .before .before .before .before .before .before .before .before .before .before .before .before .before .before .before .before .before .before .before .before .before .before .before .before .before .before .before .before .pre .1 .2) (c .before .before .before .before .before .before .before .before .before .before .before .before .before .before .before .before .before .before .before .before .before .act-on .ensures .0) (c .before .before .before .before .before .before .before .before .before .hear-own .ensures) (c .before .before .before .before .before .before .send .ensures) .ready, c .before .before .before .before .before .before .before .before .before .before .before .before .before .before .before .before .before .before .before .before .before .before .before .before .before .before .before .before .pre .1 .3)
+fire-first-rule-requires t c κs =
+    let start = c .before .before .before .before .before .before .before .before .before .before .before .before .before .before .before .before .before .before .before in
+    let the-act-on = c .before .before .before .before .before .before .before .before .before .before .before .before .before .before .before .act-on in
+    (firing-next (start .args .left) _ _ _ _ _ _ _ _ (the-act-on .result) (start .pre .1 .0) (start .pre .1 .1) (start .pre .1 .2) (the-act-on .ensures .0) (c .before .before .before .before .before .before .hear-own .ensures) (c .before .before .before .send .ensures) .ready, start .pre .1 .3)
 
 fire-is-rule-requires : (t : ℕ) → fire-lts.Need-is-rule-requires (
   act-on-reads.Asked,
@@ -162,7 +173,7 @@ fire-same-length-2 : (t : ℕ) → fire-lts.Need-same-length-2 (
   fire-below t,
   fire.Post,
 ) (fire-at t) fire.Post
-fire-same-length-2 t c = c .before .before .before .before .before .before .before .before .before .before .before .before .hear-own .kept .1 .1 .1 .1 .1 .1 .1 .1 .1 .1 .0
+fire-same-length-2 t c = c .before .before .before .before .before .before .before .before .before .hear-own .kept .1 .1 .1 .1 .1 .0
 
 fire-returns-2 : (t : ℕ) → fire-lts.Need-returns-2 (
   act-on-reads.Asked,
@@ -178,7 +189,10 @@ fire-returns-2 : (t : ℕ) → fire-lts.Need-returns-2 (
   fire-below t,
   fire.Post,
 ) (fire-at t) fire.Post
-fire-returns-2 t c = ends-quiet (c .before .before .before .before .before .before .before .before .before .before .before .before .before .before .before .before .before .before .before .before .before .before .before .before .before .before .before .before .before .before .before .args .left) _ _ _ _ _ _ _ _ (c .before .before .before .before .before .before .before .before .before .before .before .before .before .before .before .before .before .before .before .before .before .before .before .before .act-on .result) (c .before .before .before .before .before .before .before .before .before .before .before .before .before .before .before .before .before .before .before .before .before .before .before .before .before .before .before .before .before .before .before .pre .1 .0) (c .before .before .before .before .before .before .before .before .before .before .before .before .before .before .before .before .before .before .before .before .before .before .before .before .before .before .before .before .before .before .before .pre .1 .1) (c .before .before .before .before .before .before .before .before .before .before .before .before .before .before .before .before .before .before .before .before .before .before .before .before .before .before .before .before .before .before .before .pre .1 .2) (c .before .before .before .before .before .before .before .before .before .before .before .before .before .before .before .before .before .before .before .before .before .before .before .before .act-on .ensures .0) (c .before .before .before .before .before .before .before .before .before .before .before .before .hear-own .ensures) (c .before .before .before .before .before .before .before .before .before .send .ensures) _ (c .before .before .first-rule .ensures) (c .before .is-rule .ensures) (c .if2 .taken)
+fire-returns-2 t c =
+    let start = c .before .before .before .before .before .before .before .before .before .before .before .before .before .before .before .before .before .before .before .before .before .before in
+    let the-act-on = c .before .before .before .before .before .before .before .before .before .before .before .before .before .before .before .before .before .before .act-on in
+    ends-quiet (start .args .left) _ _ _ _ _ _ _ _ (the-act-on .result) (start .pre .1 .0) (start .pre .1 .1) (start .pre .1 .2) (the-act-on .ensures .0) (c .before .before .before .before .before .before .before .before .before .hear-own .ensures) (c .before .before .before .before .before .before .send .ensures) _ (c .before .before .first-rule .ensures) (c .before .is-rule .ensures) (c .if2 .taken)
 
 fire-sub-fire : (t : ℕ) → fire-lts.Need-sub-fire (
   act-on-reads.Asked,
@@ -194,7 +208,7 @@ fire-sub-fire : (t : ℕ) → fire-lts.Need-sub-fire (
   fire-below t,
   fire.Post,
 ) (fire-at t) fire.Post
-fire-sub-fire t c = omega (arith, c .before .before .before .before .before .before .before .before .before .before .if1 .left)
+fire-sub-fire t c = omega (arith, c .before .before .before .before .before .if1 .left)
 
 fire-fire-requires : (t : ℕ) → fire-lts.Need-fire-requires (
   act-on-reads.Asked,
@@ -210,15 +224,18 @@ fire-fire-requires : (t : ℕ) → fire-lts.Need-fire-requires (
   fire-below t,
   fire.Post,
 ) (fire-at t) fire.Post
-fire-fire-requires t c κs = (
-  omega (arith, c .before .before .before .before .before .before .before .before .before .before .before .before .before .before .before .if1 .left, c .before .before .before .before .before .before .before .before .before .before .before .before .before .before .before .before .before .before .before .before .before .before .before .before .before .before .before .before .before .before .before .before .before .before .before .before .before .before .pre .0),
-  (
-    fires-on (c .before .before .before .before .before .before .before .before .before .before .before .before .before .before .before .before .before .before .before .before .before .before .before .before .before .before .before .before .before .before .before .before .before .before .before .before .before .before .args .left) _ _ _ _ _ _ _ _ (c .before .before .before .before .before .before .before .before .before .before .before .before .before .before .before .before .before .before .before .before .before .before .before .before .before .before .before .before .before .before .before .act-on .result) (c .before .before .before .before .before .before .before .before .before .before .before .before .before .before .before .before .before .before .before .before .before .before .before .before .before .before .before .before .before .before .before .before .before .before .before .before .before .before .pre .1 .0) (c .before .before .before .before .before .before .before .before .before .before .before .before .before .before .before .before .before .before .before .before .before .before .before .before .before .before .before .before .before .before .before .before .before .before .before .before .before .before .pre .1 .1) (c .before .before .before .before .before .before .before .before .before .before .before .before .before .before .before .before .before .before .before .before .before .before .before .before .before .before .before .before .before .before .before .before .before .before .before .before .before .before .pre .1 .2) (c .before .before .before .before .before .before .before .before .before .before .before .before .before .before .before .before .before .before .before .before .before .before .before .before .before .before .before .before .before .before .before .act-on .ensures .0) (c .before .before .before .before .before .before .before .before .before .before .before .before .before .before .before .before .before .before .before .hear-own .ensures) (c .before .before .before .before .before .before .before .before .before .before .before .before .before .before .before .before .send .ensures) (c .before .before .before .before .before .before .before .before .before .before .before .before .before .before .before .if1 .left),
-    c .before .before .before .before .before .before .before .before .before .first-rule .ensures,
-    applies (c .before .before .before .before .before .before .before .before .is-rule .ensures) (c .before .before .before .before .before .before .before .if2 .left),
-    c .before .before .before .before .before .before .before .before .before .before .before .before .before .before .before .before .before .before .before .before .before .before .before .before .before .before .before .before .before .before .before .before .before .before .before .before .before .before .pre .1 .3,
-  ),
-)
+fire-fire-requires t c κs =
+    let start = c .before .before .before .before .before .before .before .before .before .before .before .before .before .before .before .before .before .before .before .before .before .before .before .before .before in
+    let the-act-on = c .before .before .before .before .before .before .before .before .before .before .before .before .before .before .before .before .before .before .before .before .before .act-on in
+    let the-if1 = c .before .before .before .before .before .before .before .before .if1 in (
+      omega (arith, the-if1 .left, start .pre .0),
+      (
+        fires-on (start .args .left) _ _ _ _ _ _ _ _ (the-act-on .result) (start .pre .1 .0) (start .pre .1 .1) (start .pre .1 .2) (the-act-on .ensures .0) (c .before .before .before .before .before .before .before .before .before .before .before .before .hear-own .ensures) (c .before .before .before .before .before .before .before .before .before .send .ensures) (the-if1 .left),
+        c .before .before .before .before .before .first-rule .ensures,
+        applies (c .before .before .before .before .is-rule .ensures) (c .before .before .before .if2 .left),
+        start .pre .1 .3,
+      ),
+    )
 
 fire-same-length-3 : (t : ℕ) → fire-lts.Need-same-length-3 (
   act-on-reads.Asked,
@@ -234,7 +251,7 @@ fire-same-length-3 : (t : ℕ) → fire-lts.Need-same-length-3 (
   fire-below t,
   fire.Post,
 ) (fire-at t) fire.Post
-fire-same-length-3 t c = c .before .before .fire .kept .1 .1 .1 .1 .1 .1 .1 .1 .1 .1 .1 .1 .1 .1 .0 ∙ c .before .before .before .before .before .before .before .before .before .before .before .before .before .before .before .before .before .before .before .before .before .before .hear-own .kept .1 .1 .1 .1 .1 .1 .1 .1 .1 .1 .0
+fire-same-length-3 t c = c .before .before .fire .kept .1 .1 .1 .1 .1 .1 .1 .0 ∙ c .before .before .before .before .before .before .before .before .before .before .before .before .before .before .before .hear-own .kept .1 .1 .1 .1 .1 .0
 
 fire-returns-3 : (t : ℕ) → fire-lts.Need-returns-3 (
   act-on-reads.Asked,
@@ -250,7 +267,10 @@ fire-returns-3 : (t : ℕ) → fire-lts.Need-returns-3 (
   fire-below t,
   fire.Post,
 ) (fire-at t) fire.Post
-fire-returns-3 t c = leaves-on (c .before .before .before .before .before .before .before .before .before .before .before .before .before .before .before .before .before .before .before .before .before .before .before .before .before .before .before .before .before .before .before .before .before .before .before .before .before .before .before .before .before .args .left) _ _ _ _ _ _ _ _ (c .before .before .before .before .before .before .before .before .before .before .before .before .before .before .before .before .before .before .before .before .before .before .before .before .before .before .before .before .before .before .before .before .before .before .act-on .result) (c .before .before .before .before .before .before .before .before .before .before .before .before .before .before .before .before .before .before .before .before .before .before .before .before .before .before .before .before .before .before .before .before .before .before .before .before .before .before .before .before .before .pre .1 .0) (c .before .before .before .before .before .before .before .before .before .before .before .before .before .before .before .before .before .before .before .before .before .before .before .before .before .before .before .before .before .before .before .before .before .before .before .before .before .before .before .before .before .pre .1 .1) (c .before .before .before .before .before .before .before .before .before .before .before .before .before .before .before .before .before .before .before .before .before .before .before .before .before .before .before .before .before .before .before .before .before .before .before .before .before .before .before .before .before .pre .1 .2) (c .before .before .before .before .before .before .before .before .before .before .before .before .before .before .before .before .before .before .before .before .before .before .before .before .before .before .before .before .before .before .before .before .before .before .act-on .ensures .0) (c .before .before .before .before .before .before .before .before .before .before .before .before .before .before .before .before .before .before .before .before .before .before .hear-own .ensures) (c .before .before .before .before .before .before .before .before .before .before .before .before .before .before .before .before .before .before .before .send .ensures) (c .before .before .before .before .before .before .before .before .before .before .before .before .before .before .before .before .before .before .if1 .left) (c .before .before .fire .ensures)
+fire-returns-3 t c =
+    let start = c .before .before .before .before .before .before .before .before .before .before .before .before .before .before .before .before .before .before .before .before .before .before .before .before .before .before .before .before in
+    let the-act-on = c .before .before .before .before .before .before .before .before .before .before .before .before .before .before .before .before .before .before .before .before .before .before .before .before .act-on in
+    leaves-on (start .args .left) _ _ _ _ _ _ _ _ (the-act-on .result) (start .pre .1 .0) (start .pre .1 .1) (start .pre .1 .2) (the-act-on .ensures .0) (c .before .before .before .before .before .before .before .before .before .before .before .before .before .before .before .hear-own .ensures) (c .before .before .before .before .before .before .before .before .before .before .before .before .send .ensures) (c .before .before .before .before .before .before .before .before .before .before .before .if1 .left) (c .before .before .fire .ensures)
 
 pub +fire-spec : {M : Type 1} → statement M
 +fire-spec = close μ-fire λ t. fire-lts.spec (

@@ -14,10 +14,15 @@ same-length : tie.Need-same-length
 same-length c = search needs
 
 returns : tie.Need-returns
-returns c = ends-no-rule _ _ _ _ _ _ _ _ (c .before .before .before .before .before .before .before .before .before .pre .0) _ (c .before .before .first-rule .ensures) (c .before .is-rule .ensures) (c .if1 .taken)
+returns c = ends-no-rule _ _ _ _ _ _ _ _ (c .before .before .before .before .before .before .pre .0) _ (c .before .before .first-rule .ensures) (c .before .is-rule .ensures) (c .if1 .taken)
+
+sub-fire : tie.Need-sub-fire
+sub-fire c = search needs
 
 fire-requires : tie.Need-fire-requires
-fire-requires c κs = (c .before .before .before .before .before .before .before .before .before .before .before .before .before .before .before .before .pre .0, c .before .before .before .before .before .before .before .before .before .first-rule .ensures, applies (c .before .before .before .before .before .before .before .before .is-rule .ensures) (c .before .before .before .before .before .before .before .if1 .left), c .before .before .before .before .before .before .before .before .before .before .before .before .before .before .before .before .pre .1)
+fire-requires c κs =
+    let start = c .before .before .before .before .before .before .before .before .before in
+    (start .pre .0, c .before .before .before .before .before .first-rule .ensures, applies (c .before .before .before .before .is-rule .ensures) (c .before .before .before .if1 .left), start .pre .1)
 
 same-length-2 : tie.Need-same-length-2
 same-length-2 c = search needs
@@ -33,6 +38,7 @@ fire-any-spec =
     is-rule-requires
     same-length
     returns
+    sub-fire
     fire-requires
     same-length-2
     returns-2)

@@ -1,4 +1,4 @@
--- `firing::fire::hear` meets its contract: each kind by its law. Assumes nothing.
+-- `firing::fire::hear` meets its contract. Assumes nothing.
 use Rattle.firing.proofs.Hears.{hears-proposal, hears-prevote, hears-precommit, hears-nothing}
 use borrow.Author.Needs.{needs}
 use Rattle.firing.proofs.fire.hear.Statement.{statement}
@@ -17,46 +17,31 @@ same-length : tie.Need-same-length
 same-length c = search needs
 
 returns : tie.Need-returns
-returns c = hears-proposal _ _ _ _ _ _ (c .before .before .before .before .before .before .before .before .before .before .before .before .pre .2) (c .before .before .before .before .before .before .before .before .before .before .before .before .pre .3) (c .before .before .before .before .before .before .before .before .before .before .if1 .taken) (c .before .before .before .proposal-place .ensures) (c .before .before .before .before .before .before .before .mark-proposal .ensures .0) (c .before .before .before .before .before .before .before .mark-proposal .ensures .1) (c .before .before .note .ensures .0) (c .before .before .note .ensures .1)
+returns c =
+    let start = c .before .before .before .before .before .before .before .before .before .before .before in
+    let the-note = c .before .before .note in
+    hears-proposal _ _ _ (start .pre .2) (c .before .before .before .before .before .before .before .before .if1 .taken) (c .before .before .before .proposal-place .ensures) (c .before .before .before .before .before .before .mark-proposal .ensures) (the-note .ensures .0) (the-note .ensures .1)
 
-mark-vote-requires : tie.Need-mark-vote-requires
-mark-vote-requires c κs = search needs
-
-prevotes-place-requires : tie.Need-prevotes-place-requires
-prevotes-place-requires c κs = search needs
-
-add-note : tie.Need-add-note
-add-note c = search needs
-
-note-requires-2 : tie.Need-note-requires-2
-note-requires-2 c κs = search needs
+hear-vote-requires : tie.Need-hear-vote-requires
+hear-vote-requires c κs = search needs
 
 same-length-2 : tie.Need-same-length-2
 same-length-2 c = search needs
 
 returns-2 : tie.Need-returns-2
-returns-2 c = hears-prevote _ _ _ _ _ _ (c .before .before .before .before .before .before .before .before .before .before .before .before .pre .2) (c .before .before .before .before .before .before .before .before .before .before .before .before .pre .3) (c .before .before .before .before .before .before .before .before .before .if2 .taken) (c .before .before .before .prevotes-place .ensures) (c .before .before .before .before .before .before .before .mark-vote .ensures) (c .before .before .note2 .ensures .0) (c .before .before .note2 .ensures .1)
+returns-2 c = hears-prevote _ _ _ (c .before .before .before .before .before .before .if2 .taken) (c .before .before .hear-vote .ensures)
 
-mark-vote-requires-2 : tie.Need-mark-vote-requires-2
-mark-vote-requires-2 c κs = search needs
-
-precommits-place-requires : tie.Need-precommits-place-requires
-precommits-place-requires c κs = search needs
-
-add-note-2 : tie.Need-add-note-2
-add-note-2 c = search needs
-
-note-requires-3 : tie.Need-note-requires-3
-note-requires-3 c κs = search needs
+hear-vote-requires-2 : tie.Need-hear-vote-requires-2
+hear-vote-requires-2 c κs = search needs
 
 same-length-3 : tie.Need-same-length-3
 same-length-3 c = search needs
 
 returns-3 : tie.Need-returns-3
-returns-3 c = hears-precommit _ _ _ _ _ _ (c .before .before .before .before .before .before .before .before .before .before .before .before .before .pre .2) (c .before .before .before .before .before .before .before .before .before .before .before .before .before .pre .3) (c .before .before .before .before .before .before .before .before .before .if3 .taken) (c .before .before .before .precommits-place .ensures) (c .before .before .before .before .before .before .before .mark-vote2 .ensures) (c .before .before .note3 .ensures .0) (c .before .before .note3 .ensures .1)
+returns-3 c = hears-precommit _ _ _ (c .before .before .before .before .before .before .if3 .taken) (c .before .before .hear-vote2 .ensures)
 
 returns-4 : tie.Need-returns-4
-returns-4 c = hears-nothing _ _ _ _ _ _ (c .before .before .before .before .pre .3) (c .before .before .if1 .left) (c .before .if2 .left) (c .if3 .left)
+returns-4 c = hears-nothing _ _ _ (c .before .before .before .before .before .pre .2 .long) (c .before .before .if1 .left) (c .before .if2 .left) (c .if3 .left)
 
 pub hear-spec : {M : Type 1} → statement M
 hear-spec =
@@ -67,16 +52,10 @@ hear-spec =
     note-requires
     same-length
     returns
-    mark-vote-requires
-    prevotes-place-requires
-    add-note
-    note-requires-2
+    hear-vote-requires
     same-length-2
     returns-2
-    mark-vote-requires-2
-    precommits-place-requires
-    add-note-2
-    note-requires-3
+    hear-vote-requires-2
     same-length-3
     returns-3
     returns-4)

@@ -1,24 +1,49 @@
 -- `firing::fire::mark_proposal` meets its contract. Assumes nothing.
-use mathlib.Core.Path.{refl}
 use borrow.Author.Needs.{needs}
 use Rattle.firing.proofs.fire.mark_proposal.Statement.{statement}
 use Rattle.firing.proofs.fire.mark_proposal.Tie as tie
 
-cast-at : tie.Need-cast-at
-cast-at c = search needs
+log-place-requires : tie.Need-log-place-requires
+log-place-requires c κs = search needs
 
 proposal-of-requires : tie.Need-proposal-of-requires
 proposal-of-requires c κs = search needs
 
-element-write-proposals : tie.Need-element-write-proposals
-element-write-proposals c = search needs
+add-log : tie.Need-add-log
+add-log c = search needs
 
-element-write-valids : tie.Need-element-write-valids
-element-write-valids c = search needs
+mul-log : tie.Need-mul-log
+mul-log c = search needs
+
+element-write-log : tie.Need-element-write-log
+element-write-log c = search needs
+
+cast-log : tie.Need-cast-log
+cast-log c = search needs
+
+add-log-2 : tie.Need-add-log-2
+add-log-2 c = search needs
+
+mul-log-2 : tie.Need-mul-log-2
+mul-log-2 c = search needs
+
+element-write-log-2 : tie.Need-element-write-log-2
+element-write-log-2 c = search needs
 
 returns : tie.Need-returns
-returns c = (rw (c .proposal-of .ensures), refl)
+returns c = rw (c .before .before .log-place .ensures, c .before .proposal-of .ensures)
 
 pub mark-proposal-spec : {M : Type 1} → statement M
 mark-proposal-spec =
-    tie.close (tie.spec cast-at proposal-of-requires element-write-proposals element-write-valids returns)
+    tie.close
+    (tie.spec
+    log-place-requires
+    proposal-of-requires
+    add-log
+    mul-log
+    element-write-log
+    cast-log
+    add-log-2
+    mul-log-2
+    element-write-log-2
+    returns)

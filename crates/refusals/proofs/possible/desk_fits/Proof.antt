@@ -1,18 +1,21 @@
 -- `refusals::possible::desk_fits` meets its contract: each test is asked where those before it hold. Assumes nothing.
-use mathlib.Core.Path.{_≡_, refl, sym, _∙_}
-use mathlib.Core.Bool.{true}
+use mathlib.Core.Path.{_≡_, sym, _∙_}
+use mathlib.Core.Bool.{true, _&&_}
 use borrow.Author.Tests.{not-true, not-false}
+use Rattle.words.specs.Choice.{all-below}
 use Rattle.roll.specs.Weighing.{roll-fits, own-fits}
 use Rattle.rules.specs.declared.State.{State}
-use Rattle.rules.specs.State.{log-of, state-of}
-use Rattle.refusals.proofs.Judging.{roll-not, own-not, places-not, round-not, settled-not, rounds-not, held-not, fresh-then, started-then, few-kiosks, ready, Begun}
+use Rattle.rules.specs.State.{most-rounds, state-of}
+use Rattle.rules.specs.Log.{desk}
+use Rattle.refusals.specs.Possible.{round-fits}
+use Rattle.refusals.proofs.Judging.{rounds-both, roll-not, own-not, places-not, round-not, settled-not, rounds-not, held-not, fresh-then, started-then, few-kiosks, ready, Begun}
 use borrow.Author.Needs.{needs}
 use Rattle.refusals.proofs.possible.desk_fits.Statement.{statement}
 use Rattle.refusals.proofs.possible.desk_fits.Tie as tie
 
 -- the state that is judged
 abbrev state : tie.Start → State
-state a = state-of (a .args .roll) (a .args .votes) (log-of (a .args .prevotes .now) (a .args .precommits .now) (a .args .proposals .now) (a .args .valids .now))
+state a = state-of (a .args .roll) (a .args .progress) (a .args .log .now)
 
 -- what is known where each test holds
 roll-fit : (c : tie.Else1) → roll-fits (c .before .before .before .before .args .roll) ≡ true
@@ -34,6 +37,12 @@ has-begun c =
       settled = rw (c .before .settled-round .ensures) at (c .if5 .left);
     }
 
+-- what is asked of every round
+of-rounds : (c : tie.After-proposals-fit) → let a = c .before .before .before .before .before .before .before .before .before .before .before .before .before in (c .before .marks-fit .result && c .proposals-fit .result) ≡ all-below most-rounds (λ r. round-fits (desk (state a) (a .args .table .now)) r)
+of-rounds c =
+    let a = c .before .before .before .before .before .before .before .before .before .before .before .before .before in
+    rw (c .proposals-fit .ensures, c .before .marks-fit .ensures) (rounds-both (state a) (a .args .table .now) most-rounds)
+
 fits-requires : tie.Need-fits-requires
 fits-requires c κs = search needs
 
@@ -49,6 +58,9 @@ returns-2 c = own-not _ _ (roll-fit (c .before .before)) (sym (c .before .own-fi
 returns-3 : tie.Need-returns-3
 returns-3 c = places-not _ _ (roll-fit (c .before .before .before)) (own-fit (c .before)) (c .if3 .taken)
 
+cast-if4 : tie.Need-cast-if4
+cast-if4 c = search needs
+
 returns-4 : tie.Need-returns-4
 returns-4 c =
     let b = c .before .before .before in
@@ -57,17 +69,23 @@ returns-4 c =
 settled-round-requires : tie.Need-settled-round-requires
 settled-round-requires c κs = search needs
 
+cast-if5 : tie.Need-cast-if5
+cast-if5 c = search needs
+
 returns-5 : tie.Need-returns-5
 returns-5 c =
     let d = c .before .before in
     let b = d .before .before .before in
     settled-not _ _ (roll-fit (b .before .before)) (own-fit b) (d .before .before .if3 .left) (d .if4 .left) (c .before .settled-round .ensures) (c .if5 .taken)
 
-rounds-fit-requires : tie.Need-rounds-fit-requires
-rounds-fit-requires c κs = let e = has-begun c in (few-kiosks _ (e .roll), e .places)
+marks-fit-requires : tie.Need-marks-fit-requires
+marks-fit-requires c κs = few-kiosks _ (has-begun c .roll)
+
+proposals-fit-requires : tie.Need-proposals-fit-requires
+proposals-fit-requires c κs = has-begun (c .before) .places
 
 returns-6 : tie.Need-returns-6
-returns-6 c = rounds-not _ _ (has-begun (c .before .before)) (let a = c .before .before .before .before .before .before .before .before .before .before .before .before .before .args in c .before .rounds-fit .ensures (a .roll) (a .votes) refl) (c .if6 .taken)
+returns-6 c = rounds-not _ _ (has-begun (c .before .before .before)) (of-rounds (c .before)) (c .if6 .taken)
 
 held-fits-requires : tie.Need-held-fits-requires
 held-fits-requires c κs = search needs
@@ -78,8 +96,8 @@ held-fits-requires-2 c κs = search needs
 returns-7 : tie.Need-returns-7
 returns-7 c =
     let h = c .before in
-    let g = h .before .before .before in
-    held-not _ _ (has-begun (g .before .before)) (let a = g .before .before .before .before .before .before .before .before .before .before .before .before .before .args in g .before .rounds-fit .ensures (a .roll) (a .votes) refl) (g .if6 .left) (h .before .held-fits .ensures) (h .held-fits2 .ensures) (c .if7 .taken)
+    let g = h .before .before in
+    held-not _ _ (has-begun (g .before .before .before)) (of-rounds (g .before)) (g .if6 .left) (h .before .held-fits .ensures) (h .held-fits2 .ensures) (c .if7 .taken)
 
 is-fresh-requires : tie.Need-is-fresh-requires
 is-fresh-requires c κs = search needs
@@ -92,9 +110,9 @@ returns-8 c =
     let f = c .before in
     let k = f .before .before in
     let h = k .before in
-    let g = h .before .before .before in
-    fresh-then _ _ (has-begun (g .before .before)) (let a = g .before .before .before .before .before .before .before .before .before .before .before .before .before .args in g .before .rounds-fit .ensures (a .roll) (a .votes) refl) (g .if6 .left) (h .before .held-fits .ensures) (h .held-fits2 .ensures) (k .if7 .left)
-    (sym (f .before .is-fresh .ensures) ∙ f .if8 .taken) (let a = c .before .before .before .before .before .before .before .before .before .before .before .before .before .before .before .before .before .before .before .before .args in c .fresh-fits .ensures (a .roll) (a .valids .now))
+    let g = h .before .before in
+    fresh-then _ _ (has-begun (g .before .before .before)) (of-rounds (g .before)) (g .if6 .left) (h .before .held-fits .ensures) (h .held-fits2 .ensures) (k .if7 .left)
+    (sym (f .before .is-fresh .ensures) ∙ f .if8 .taken) (let a = c .before .before .before .before .before .before .before .before .before .before .before .before .before .before .before .before .before .before .before .before .args in c .fresh-fits .ensures (a .roll))
 
 total-requires : tie.Need-total-requires
 total-requires c κs = few-kiosks _ (has-begun (c .before .before .before .before .before .before .before .before) .roll)
@@ -112,8 +130,8 @@ returns-9 c =
     let f = c .before .before .before in
     let k = f .before .before in
     let h = k .before in
-    let g = h .before .before .before in
-    started-then _ _ (has-begun (g .before .before)) (let a = g .before .before .before .before .before .before .before .before .before .before .before .before .before .args in g .before .rounds-fit .ensures (a .roll) (a .votes) refl) (g .if6 .left) (h .before .held-fits .ensures) (h .held-fits2 .ensures) (k .if7 .left)
+    let g = h .before .before in
+    started-then _ _ (has-begun (g .before .before .before)) (of-rounds (g .before)) (g .if6 .left) (h .before .held-fits .ensures) (h .held-fits2 .ensures) (k .if7 .left)
     (sym (f .before .is-fresh .ensures) ∙ f .if8 .left) (rw (c .is-rule .ensures, c .before .first-rule .ensures))
 
 pub desk-fits-spec : {M : Type 1} → statement M
@@ -125,10 +143,13 @@ desk-fits-spec =
     own-fits-requires
     returns-2
     returns-3
+    cast-if4
     returns-4
     settled-round-requires
+    cast-if5
     returns-5
-    rounds-fit-requires
+    marks-fit-requires
+    proposals-fit-requires
     returns-6
     held-fits-requires
     held-fits-requires-2

@@ -1,35 +1,31 @@
--- `refusals::possible::proposals_fit` meets its contract. The invariant: the answer is that of the rounds passed. Assumes nothing.
+-- `refusals::possible::proposals_fit` meets its contract: the answer is that of the rounds passed. Assumes nothing.
 use Prim.Native.Nat.{_-_, _≤_}
 use mathlib.Core.Path.{_≡_, refl}
-use mathlib.Core.Bool.{_&&_, _||_, not}
 use native.Mathlib.Omega.{arith}
-use borrow.Author.Tests.{ne-eqb}
-use lib.Dec.{leb, eqb}
-use lib.ListN.{getD}
 use Rattle.words.specs.Choice.{all-below}
 use Rattle.roll.proofs.Weighing.{all-more, all-passed}
-use Rattle.rules.specs.Log.{proposal-place}
-use Rattle.refusals.proofs.Judging.{all-over}
 use borrow.Author.Needs.{needs}
+use borrow.Author.Tests.{ne-eqb}
+use lib.ListN.{getD}
+use Rattle.rules.specs.State.{most-rounds}
+use Rattle.rules.specs.Log.{told, proposal-place}
+use Rattle.refusals.specs.contracts.Parts.{proposed-fits}
+use Rattle.refusals.proofs.Judging.{all-over}
 use Rattle.refusals.proofs.possible.proposals_fit.Statement.{statement}
 use Rattle.refusals.proofs.possible.proposals_fit.Tie as tie
 
 abbrev Inv-loop : tie.InvT-loop
-Inv-loop proposals valids table fit₀ r₀ fit r =
-    (r ≤ 16) × (fit ≡ all-below r (λ k. leb (getD proposals k 0) 2 && (eqb (getD proposals k 0) 0 || (not (eqb (getD table (proposal-place k) 0) 0) && leb (getD valids k 0) k))))
+Inv-loop log table fit₀ r₀ fit r = (r ≤ most-rounds) × (fit ≡ all-below r (λ k. proposed-fits k (getD table (proposal-place k) 0) (told log k)))
 
 abbrev μ-loop : tie.MeasureT-loop
-μ-loop proposals valids table fit₀ r₀ fit r = 16 - r
+μ-loop log table fit₀ r₀ fit r = most-rounds - r
 
 loop-holds : tie.Need-loop-holds Inv-loop μ-loop
 unfolding all-below
 loop-holds c = (omega arith, refl)
 
-cast-at : tie.Need-cast-at Inv-loop μ-loop
-cast-at c = search needs
-
-element-copy-out-proposal : tie.Need-element-copy-out-proposal Inv-loop μ-loop
-element-copy-out-proposal c = search needs
+heard-in-requires : tie.Need-heard-in-requires Inv-loop μ-loop
+heard-in-requires c κs = search needs
 
 add-r : tie.Need-add-r Inv-loop μ-loop
 add-r c = search needs
@@ -38,13 +34,16 @@ loop-less : tie.Need-loop-less Inv-loop μ-loop
 loop-less c = search needs
 
 loop-again : tie.Need-loop-again Inv-loop μ-loop
-loop-again c = (omega arith, all-over _ _ (c .before .before .before .loop .inv .1) (rw (c .if1 .taken)))
+loop-again c = (omega arith, all-over _ _ (c .before .before .before .before .loop .inv .1) (rw (← c .before .before .heard-in .ensures, c .if1 .taken)))
+
+cast-t8 : tie.Need-cast-t8 Inv-loop μ-loop
+cast-t8 c = search needs
 
 proposed-requires : tie.Need-proposed-requires Inv-loop μ-loop
 proposed-requires c κs = search needs
 
-element-copy-out-fit : tie.Need-element-copy-out-fit Inv-loop μ-loop
-element-copy-out-fit c = search needs
+cast-fit : tie.Need-cast-fit Inv-loop μ-loop
+cast-fit c = search needs
 
 add-r-2 : tie.Need-add-r-2 Inv-loop μ-loop
 add-r-2 c = search needs
@@ -53,9 +52,7 @@ loop-less-2 : tie.Need-loop-less-2 Inv-loop μ-loop
 loop-less-2 c = search needs
 
 loop-again-2 : tie.Need-loop-again-2 Inv-loop μ-loop
-loop-again-2 c =
-    let p = c .before in
-    (omega arith, all-more _ _ (p .before .before .before .before .loop .inv .1) (rw (p .proposed .ensures, ne-eqb _ 0 (p .before .if1 .left))))
+loop-again-2 c = (omega arith, all-more _ _ (c .before .before .before .before .before .before .loop .inv .1) (rw (c .before .proposed .ensures, ← c .before .before .before .before .heard-in .ensures, ne-eqb _ 0 (c .before .before .if1 .left))))
 
 returns : tie.Need-returns Inv-loop μ-loop
 returns c = all-passed _ _ _ (c .before .loop .inv .1) (c .before .loop .inv .0) (c .loop-test .left)
@@ -67,13 +64,13 @@ proposals-fit-spec =
     Inv-loop
     μ-loop
     loop-holds
-    cast-at
-    element-copy-out-proposal
+    heard-in-requires
     add-r
     loop-less
     loop-again
+    cast-t8
     proposed-requires
-    element-copy-out-fit
+    cast-fit
     add-r-2
     loop-less-2
     loop-again-2

@@ -5,12 +5,13 @@ use native.Mathlib.Omega.{arith}
 use lib.Dec.{leb}
 use lib.ListN.{getD}
 use Rattle.words.specs.Choice.{all-below}
+use Rattle.roll.specs.Weighing.{most-power}
 use Rattle.roll.proofs.Weighing.{all-more, all-passed}
 use Rattle.roll.proofs.Roll.powers_fit.Statement.{statement}
 use Rattle.roll.proofs.Roll.powers_fit.Tie as tie
 
 abbrev Inv-loop : tie.InvT-loop
-Inv-loop self fit₀ i₀ fit i = (i ≤ self .kiosks) × (fit ≡ all-below i (λ k. leb (getD (self .powers) k 0) 1000))
+Inv-loop self fit₀ i₀ fit i = (i ≤ self .kiosks) × (fit ≡ all-below i (λ k. leb (getD (self .powers) k 0) most-power))
 
 abbrev μ-loop : tie.MeasureT-loop
 μ-loop self fit₀ i₀ fit i = self .kiosks - i

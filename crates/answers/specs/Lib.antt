@@ -1,2 +1,0 @@
--- 01's number and place of each answer.
-pub mod Answers

@@ -1,0 +1,12 @@
+-- `board::state::holds` meets its contract. Assumes nothing.
+use mathlib.Core.Path.{refl}
+use Rattle.board.specs.Flat.{holds}
+use Rattle.board.proofs.state.holds.Statement.{statement}
+use Rattle.board.proofs.state.holds.Tie as tie
+
+returns : tie.Need-returns
+unfolding holds
+returns c = refl
+
+pub holds-spec : {M : Type 1} → statement M
+holds-spec = tie.close (tie.spec returns)

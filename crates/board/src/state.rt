@@ -1,0 +1,162 @@
+// The state and its twin.
+use crate::FlatKiosk;
+use kiosk::Course;
+use roll::Height;
+use roll::PlusOne;
+use roll::Roll;
+use roll::Round;
+use rules::Asked;
+use rules::Held;
+use rules::Log;
+use rules::Phase;
+use rules::Progress;
+use rules::Stand;
+use rules::Step;
+use rules::enums::settled_round;
+ghost use mathlib.Core.Path.{_≡_};
+ghost use Rattle.kiosk.specs.contracts.Lent as lent;
+ghost use Rattle.board.specs.Flat.{flag, phase-of, phase-number, step-of, step-number, holds, kiosk-of, course-of, flat-kiosk};
+
+// A truth as 0 or 1.
+fn flag(b: bool) -> u8
+    ensures { λ n. ⌜ n ≡ flag b ⌝ }
+{
+    if b { 1 } else { 0 }
+}
+
+fn phase_of(phase: u8, settled: u8) -> Phase
+    ensures { λ p. ⌜ p ≡ phase-of phase settled ⌝ }
+{
+    if phase == 0 {
+        return Phase::Fresh;
+    }
+    if phase == 1 {
+        return Phase::Running;
+    }
+    Phase::Settled(Round(settled))
+}
+
+fn phase_number(p: Phase) -> u8
+    ensures { λ n. ⌜ n ≡ phase-number p ⌝ }
+{
+    match p {
+        Phase::Fresh => 0,
+        Phase::Running => 1,
+        Phase::Settled(_) => 2,
+    }
+}
+
+fn step_of(step: u8) -> Step
+    ensures { λ s. ⌜ s ≡ step-of step ⌝ }
+{
+    if step == 0 {
+        return Step::Propose;
+    }
+    if step == 1 {
+        return Step::Prevote;
+    }
+    Step::Precommit
+}
+
+fn step_number(s: Step) -> u8
+    ensures { λ n. ⌜ n ≡ step-number s ⌝ }
+{
+    match s {
+        Step::Propose => 0,
+        Step::Prevote => 1,
+        Step::Precommit => 2,
+    }
+}
+
+// Whether a kiosk's types can hold what the twin says.
+pub fn holds(f: FlatKiosk) -> bool
+    ensures { λ b. ⌜ b ≡ holds f ⌝ }
+{
+    (f.phase <= 2)
+        & ((f.phase == 2) | (f.settled == 0))
+        & (f.step <= 2)
+        & (f.asked_propose <= 1)
+        & (f.asked_prevote <= 1)
+        & (f.asked_precommit <= 1)
+        & (f.backed <= 1)
+}
+
+pub fn roll_of(f: FlatKiosk) -> Roll
+    ensures { λ r. ⌜ r ≡ kiosk-of f .state .roll ⌝ }
+{
+    let powers = f.powers;
+    Roll {
+        kiosks: f.kiosks,
+        powers,
+        own: f.own,
+        height: Height(f.height),
+    }
+}
+
+fn progress_of(f: FlatKiosk) -> Progress
+    ensures { λ p. ⌜ p ≡ kiosk-of f .state .progress ⌝ }
+{
+    Progress {
+        phase: phase_of(f.phase, f.settled),
+        stand: Stand {
+            round: Round(f.round),
+            step: step_of(f.step),
+            asked: Asked {
+                propose: f.asked_propose == 1,
+                prevote: f.asked_prevote == 1,
+                precommit: f.asked_precommit == 1,
+            },
+            backed: f.backed == 1,
+        },
+        locked: Held {
+            next: PlusOne(f.locked_next),
+            name: f.locked_name,
+        },
+        valid: Held {
+            next: PlusOne(f.valid_next),
+            name: f.valid_name,
+        },
+    }
+}
+
+pub fn course_of(f: FlatKiosk) -> Course
+    ensures { λ c. ⌜ c ≡ course-of f ⌝ }
+{
+    Course {
+        progress: progress_of(f),
+        used: f.used,
+        last: f.last,
+    }
+}
+
+pub fn flat_kiosk(roll: Roll, course: Course, log: Log) -> FlatKiosk
+    ensures { λ f. ⌜ f ≡ flat-kiosk (lent.kiosk-of roll course log) ⌝ }
+{
+    let progress = course.progress;
+    let phase = progress.phase;
+    let stand = progress.stand;
+    let step = stand.step;
+    let asked = stand.asked;
+    let powers = roll.powers;
+    FlatKiosk {
+        kiosks: roll.kiosks,
+        own: roll.own,
+        used: course.used,
+        last: course.last,
+        locked_name: progress.locked.name,
+        valid_name: progress.valid.name,
+        height: roll.height.0,
+        powers,
+        phase: phase_number(phase),
+        settled: settled_round(phase),
+        round: stand.round.0,
+        step: step_number(step),
+        asked_propose: flag(asked.propose),
+        asked_prevote: flag(asked.prevote),
+        asked_precommit: flag(asked.precommit),
+        backed: flag(stand.backed),
+        locked_next: progress.locked.next.0,
+        valid_next: progress.valid.next.0,
+        log,
+    }
+}

@@ -1,0 +1,2 @@
+-- Laws of what is written.
+pub mod Filling

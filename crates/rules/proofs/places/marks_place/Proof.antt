@@ -1,0 +1,45 @@
+-- `rules::places::marks_place` meets its contract. Assumes nothing.
+use borrow.Author.Needs.{needs}
+use Rattle.rules.proofs.places.marks_place.Statement.{statement}
+use Rattle.rules.proofs.places.marks_place.Tie as tie
+
+enum-told : tie.Need-enum-told
+enum-told c = search needs
+
+cast-result : tie.Need-cast-result
+cast-result c = search needs
+
+mul-result : tie.Need-mul-result
+mul-result c = search needs
+
+enum-told-2 : tie.Need-enum-told-2
+enum-told-2 c = search needs
+
+cast-result-2 : tie.Need-cast-result-2
+cast-result-2 c = search needs
+
+mul-result-2 : tie.Need-mul-result-2
+mul-result-2 c = search needs
+
+add-result : tie.Need-add-result
+add-result c = search needs
+
+returns : tie.Need-returns
+returns c = rw (c .before .enum-told .given .1)
+
+returns-2 : tie.Need-returns-2
+returns-2 c = rw (c .before .enum-told2 .given .1)
+
+pub marks-place-spec : {M : Type 1} → statement M
+marks-place-spec =
+    tie.close
+    (tie.spec
+    enum-told
+    cast-result
+    mul-result
+    enum-told-2
+    cast-result-2
+    mul-result-2
+    add-result
+    returns
+    returns-2)
