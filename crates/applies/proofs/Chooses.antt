@@ -1,8 +1,10 @@
 -- The rounds that rules 49 and 55 look for: which of them close, and which call. Assumes nothing.
-use Prim.Native.Nat.{ℕ, pred, _+_, _-_, _≤_, _<_}
-use mathlib.Core.Path.{_≡_, refl}
+use Prim.Native.Nat.{ℕ, zero, suc, pred, _+_, _-_, _≤_, _<_}
+use mathlib.Core.Path.{_≡_, refl, subst}
 use mathlib.Core.List.{List}
 use mathlib.Core.Bool.{Bool, true, false, _&&_, not}
+use mathlib.Core.Logic.{⊎-elim}
+use native.Mathlib.Nat.{eq-or-lt-of-le}
 use native.Mathlib.Omega.{arith}
 use borrow.Author.Tests.{lt-ltb, le-ltb, le-leb, eqb-true}
 use lib.Dec.{eqb, ltb}
@@ -20,6 +22,22 @@ use Rattle.rules.specs.State.{unheard, good}
 use Rattle.rules.specs.Log.{Desk, desk, told, proposal-place, good-sheets, power-for, message-power}
 use Rattle.rules.specs.Doing.{current}
 use Rattle.rules.specs.Rules.{is-large, closing-sheet, closing-round, applies-49, calls, past-calling-round, applies-55, from-49}
+
+-- rounds passed from one on: a test that fails at each of them and at the next fails at one more
+pub none-more : (p : ℕ → Bool) (from k : ℕ) → ((q : ℕ) → from ≤ q → q < k → p q ≡ false) → p k ≡ false
+    → (q : ℕ) → from ≤ q → q < k + 1 → p q ≡ false
+none-more p from k none fails q h l =
+    ⊎-elim (λ same. rw same fails) (λ less. none q h less) (eq-or-lt-of-le {n = q} {m = k} (omega arith))
+
+-- and where it fails at each below and at each of them, there is no lowest
+pub lowest-on : (n k : ℕ) (p : ℕ → Bool) → lowest-below k p ≡ k → k ≤ n → ((q : ℕ) → k ≤ q → q < n → p q ≡ false) → lowest-below n p ≡ n
+unfolding lowest-below
+lowest-on zero k p none h fails = refl
+lowest-on (suc n) k p none h fails =
+    ⊎-elim
+    (λ same. subst (λ (m : ℕ). lowest-below m p ≡ m) same none)
+    (λ less. rw (lowest-on n k p none (omega arith) (λ q i l. fails q i (omega arith)), le-ltb n n (omega arith), fails n (omega arith) (omega arith)))
+    (eq-or-lt-of-le {n = k} {m = suc n} h)
 
 sheet-named : (b : Bool) (name : ℕ) → not (eqb (if b then name else 0) 0) ≡ (b && not (eqb name 0))
 sheet-named true name = refl
@@ -75,6 +93,11 @@ none-calls d n h = highest-none n (λ r. calls d r) (λ r l. rw (le-ltb (current
 
 -- the rules of the whole log, by the rounds found
 module _ (s : State) (t : List ℕ) where
+  -- rounds without a good proposal are passed
+  pub bad-passed : (from r : ℕ) → lowest-below from (λ k. not (eqb (closing-sheet (desk s t) k) 0)) ≡ from → from ≤ r
+      → ((q : ℕ) → from ≤ q → q < r → good (told (s .log) q) ≡ false) → lowest-below r (λ k. not (eqb (closing-sheet (desk s t) k) 0)) ≡ r
+  bad-passed from r none h bad = lowest-on r from (λ k. not (eqb (closing-sheet (desk s t) k) 0)) none h (λ q i l. bad-closes-not s t q refl (bad q i l))
+
   pub none-closes : (r : ℕ) → lowest-below r (λ k. not (eqb (closing-sheet (desk s t) k) 0)) ≡ r → r ≤ 16 → 16 ≤ r → closing-round (desk s t) ≡ 16
   unfolding closing-round
   none-closes r none l h = let g : r ≡ 16 = omega arith in rw g at none

@@ -27,7 +27,7 @@ use words::marks::either;
 use words::marks::with_mark;
 ghost use Prim.Native.Nat.{ℕ, _<_, _≤_};
 ghost use mathlib.Core.Path.{_≡_};
-ghost use mathlib.Core.Bool.{_&&_, _||_, not};
+ghost use mathlib.Core.Bool.{true, false, _&&_, _||_, not};
 ghost use mathlib.Core.List.{List};
 ghost use lib.Bits.{bitOr};
 ghost use lib.Dec.{eqb, leb};
@@ -185,6 +185,21 @@ fn senders(h: Heard, turn: usize) -> u32
     votes
 }
 
+// The first round from `from` on whose proposal is heard good; the number of rounds where there is none.
+fn next_good(log: &Log, from: usize) -> usize
+    requires { ⌜ from ≤ most-rounds ⌝ }
+    ensures { λ r. ⌜ (from ≤ r) × (r ≤ most-rounds) × ((q : ℕ) → from ≤ q → q < r → good (told (now (log .entry)) q) ≡ false) × (r < most-rounds → good (told (now (log .entry)) r) ≡ true) ⌝ }
+{
+    let mut next = from;
+    while next < State::ROUNDS {
+        if is_good(log[State::LOG_PER_ROUND * next + 2]) {
+            return next;
+        }
+        next += 1;
+    }
+    next
+}
+
 // The rules from 34 on, with h heard of the current round: those of that round, and then 49 and 55, that look at the whole log. Of 49's
 // rounds, from the lowest on, one without a good proposal is passed before anything is weighed; of 55's, from the highest down to the
 // next, one of which nothing is heard.
@@ -202,13 +217,9 @@ fn from_34(progress: Progress, roll: Roll, h: Heard, log: &Log, table: &[u64], t
     if applies_47(stand, h, &roll.powers, kiosks, total) {
         return Rule::Line47;
     }
-    let mut r: usize = 0;
+    let mut r = next_good(log, 0);
     while r < State::ROUNDS {
         let there = heard_in(log, r);
-        if !is_good(there.proposal) {
-            r += 1;
-            continue;
-        }
         let round = Round(r as u8);
         let name = proposed(table, round);
         let closes = is_large_named(
@@ -223,7 +234,7 @@ fn from_34(progress: Progress, roll: Roll, h: Heard, log: &Log, table: &[u64], t
         if closes & (name != 0) {
             return Rule::Line49(round, name);
         }
-        r += 1;
+        r = next_good(log, r + 1);
     }
     let mut past = State::ROUNDS;
     while (now.0 as usize) + 1 < past {

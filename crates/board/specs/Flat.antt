@@ -1,7 +1,7 @@
 -- The flat twins of a kiosk's state, inputs and replies: what each number means, and which numbers the state's types can hold.
 -- Assumes nothing.
 use Prim.Native.Nat.{ℕ}
-use mathlib.Core.List.{map}
+use mathlib.Core.List.{List, map}
 use mathlib.Core.Bool.{Bool, true, false, _&&_, _||_}
 use lib.ListN.{replicate}
 use lib.Dec.{leb, eqb}
@@ -90,6 +90,30 @@ kiosk-of f = record {
 -- how far it has come, as the calls hand it on
 abbrev pub course-of : FlatKiosk → Course
 course-of f = record { progress = kiosk-of f .state .progress; used = f .used; last = f .last }
+
+-- a twin with this roll and log; its other numbers are 0
+abbrev pub bare : Roll → List ℕ → FlatKiosk
+bare roll l = record {
+  kiosks = roll .kiosks;
+  own = roll .own;
+  used = 0;
+  last = 0;
+  «locked_name» = 0;
+  «valid_name» = 0;
+  height = roll .height .0;
+  powers = roll .powers;
+  phase = 0;
+  settled = 0;
+  round = 0;
+  step = 0;
+  «asked_propose» = 0;
+  «asked_prevote» = 0;
+  «asked_precommit» = 0;
+  backed = 0;
+  «locked_next» = 0;
+  «valid_next» = 0;
+  log = l;
+}
 
 abbrev pub flat-kiosk : Kiosk → FlatKiosk
 flat-kiosk k = record {

@@ -61,10 +61,11 @@ pub extern "C" fn slip_put(
     if !holds(f) {
         return impossible(f);
     }
+    let course = course_of(f);
     let roll = roll_of(f);
-    let mut log = f.log;
-    let d = put_lent(course_of(f), roll, input_of(i), &mut log, table, journal);
-    flat_done(roll, d, log)
+    let mut next = f;
+    let d = put_lent(course, roll, input_of(i), &mut next.log, table, journal);
+    flat_done(next, d)
 }
 
 // The last whole group, as a part of the lent journal.

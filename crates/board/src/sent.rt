@@ -3,7 +3,8 @@ use crate::FlatInput;
 use crate::FlatKiosk;
 use crate::FlatOutput;
 use crate::FlatReply;
-use crate::state::flat_kiosk;
+use crate::state::bare;
+use crate::state::with_course;
 use kiosk::Course;
 use kiosk::Done;
 use kiosk::Reply;
@@ -11,16 +12,14 @@ use refusals::answers::number_of;
 use refusals::answers::place_of;
 use roll::Height;
 use roll::PlusOne;
-use roll::Roll;
 use roll::Round;
 use rules::Input;
-use rules::Log;
 use rules::Output;
 use rules::Sent;
 ghost use mathlib.Core.Path.{_≡_};
 ghost use mathlib.Core.List.{map};
 ghost use Rattle.kiosk.specs.contracts.Lent.{reply-of};
-ghost use Rattle.board.specs.Flat.{input-of, flat-output, empty-output, flat-reply, impossible};
+ghost use Rattle.board.specs.Flat.{roll-of, input-of, flat-output, empty-output, flat-reply, impossible};
 
 pub fn input_of(i: FlatInput) -> Input
     ensures { λ r. ⌜ r ≡ input-of i ⌝ }
@@ -72,9 +71,9 @@ fn flat_list(list: [Output; Sent::MOST]) -> [FlatOutput; Sent::MOST]
     flat
 }
 
-// The reply of a call to which the log was lent: the roll, what the call gives, and the log after it.
-pub fn flat_done(roll: Roll, d: Done, log: Log) -> FlatReply
-    ensures { λ x. ⌜ x ≡ flat-reply (reply-of roll log d) ⌝ }
+// The reply of a call to which the log of the twin was lent: the twin with the log after it, and what the call gives.
+pub fn flat_done(f: FlatKiosk, d: Done) -> FlatReply
+    ensures { λ x. ⌜ x ≡ flat-reply (reply-of (roll-of f) (f .log) d) ⌝ }
 {
     let answer = d.answer;
     let list = d.sent.list;
@@ -85,7 +84,7 @@ pub fn flat_done(roll: Roll, d: Done, log: Log) -> FlatReply
         place: place_of(answer),
         count: d.sent.count,
         sent,
-        kiosk: flat_kiosk(roll, course, log),
+        kiosk: with_course(f, course),
     }
 }
 
@@ -104,13 +103,12 @@ pub fn flat_reply(r: Reply) -> FlatReply
         last: r.kiosk.last,
     };
     flat_done(
-        roll,
+        bare(roll, log),
         Done {
             answer,
             sent,
             course,
         },
-        log,
     )
 }
 

@@ -15,7 +15,7 @@ use rules::Step;
 use rules::enums::settled_round;
 ghost use mathlib.Core.Path.{_≡_};
 ghost use Rattle.kiosk.specs.contracts.Lent as lent;
-ghost use Rattle.board.specs.Flat.{flag, phase-of, phase-number, step-of, step-number, holds, kiosk-of, course-of, flat-kiosk};
+ghost use Rattle.board.specs.Flat.{flag, phase-of, phase-number, step-of, step-number, holds, kiosk-of, roll-of, course-of, bare, flat-kiosk};
 
 // A truth as 0 or 1.
 fn flag(b: bool) -> u8
@@ -129,34 +129,56 @@ pub fn course_of(f: FlatKiosk) -> Course
     }
 }
 
-pub fn flat_kiosk(roll: Roll, course: Course, log: Log) -> FlatKiosk
-    ensures { λ f. ⌜ f ≡ flat-kiosk (lent.kiosk-of roll course log) ⌝ }
+// A twin with this roll and log; its other numbers are 0.
+pub fn bare(roll: Roll, log: Log) -> FlatKiosk
+    ensures { λ f. ⌜ f ≡ bare roll log ⌝ }
+{
+    let powers = roll.powers;
+    FlatKiosk {
+        kiosks: roll.kiosks,
+        own: roll.own,
+        used: 0,
+        last: 0,
+        locked_name: 0,
+        valid_name: 0,
+        height: roll.height.0,
+        powers,
+        phase: 0,
+        settled: 0,
+        round: 0,
+        step: 0,
+        asked_propose: 0,
+        asked_prevote: 0,
+        asked_precommit: 0,
+        backed: 0,
+        locked_next: 0,
+        valid_next: 0,
+        log,
+    }
+}
+
+// The twin with this course in place of its own. Its roll and its log stay where they are, so they are not copied once more.
+pub fn with_course(mut f: FlatKiosk, course: Course) -> FlatKiosk
+    ensures { λ g. ⌜ g ≡ flat-kiosk (lent.kiosk-of (roll-of f) course (f .log)) ⌝ }
 {
     let progress = course.progress;
     let phase = progress.phase;
     let stand = progress.stand;
     let step = stand.step;
     let asked = stand.asked;
-    let powers = roll.powers;
-    FlatKiosk {
-        kiosks: roll.kiosks,
-        own: roll.own,
-        used: course.used,
-        last: course.last,
-        locked_name: progress.locked.name,
-        valid_name: progress.valid.name,
-        height: roll.height.0,
-        powers,
-        phase: phase_number(phase),
-        settled: settled_round(phase),
-        round: stand.round.0,
-        step: step_number(step),
-        asked_propose: flag(asked.propose),
-        asked_prevote: flag(asked.prevote),
-        asked_precommit: flag(asked.precommit),
-        backed: flag(stand.backed),
-        locked_next: progress.locked.next.0,
-        valid_next: progress.valid.next.0,
-        log,
-    }
+    f.used = course.used;
+    f.last = course.last;
+    f.locked_name = progress.locked.name;
+    f.valid_name = progress.valid.name;
+    f.phase = phase_number(phase);
+    f.settled = settled_round(phase);
+    f.round = stand.round.0;
+    f.step = step_number(step);
+    f.asked_propose = flag(asked.propose);
+    f.asked_prevote = flag(asked.prevote);
+    f.asked_precommit = flag(asked.precommit);
+    f.backed = flag(stand.backed);
+    f.locked_next = progress.locked.next.0;
+    f.valid_next = progress.valid.next.0;
+    f
 }

@@ -35,6 +35,8 @@ ghost use Rattle.rules.specs.State.{most-rounds, log-length, state-of, proposal
 ghost use Rattle.rules.specs.Log.{message, hear-vote};
 ghost use Rattle.rules.specs.Rules.{fire};
 ghost use Rattle.rules.specs.Work.{fire-all};
+ghost use Rattle.rules.specs.Sent.{packed};
+ghost use mathlib.Core.List.{[]};
 ghost use Rattle.rules.specs.contracts.Ready.{Ready};
 ghost use Rattle.firing.specs.contracts.Acts.{does-at, rule-fits};
 ghost use Rattle.firing.specs.contracts.Trails.{trail-length, no-trail, written, longer, undone, own-message, lent, Writable, Puts, Can-fire, Fires, Workable, all-firings, Leaves-work, Leaves-after};
@@ -228,6 +230,34 @@ fn fire_any(
     )
 }
 
+// The same as a call begins with a message: no output is there yet, so none is carried to where no rule applies.
+fn fire_first(
+    progress: Progress,
+    given: Given,
+    trail: &mut Trail,
+    log: &mut Log,
+    table: &mut [u64],
+) -> Worked
+    requires { ⌜ Can-fire all-firings given progress (packed []) (lent (now log) (now table) (now trail)) ⌝ }
+    ensures { λ w. ⌜ Leaves-after (fire-all all-firings (given .offer)) given progress (packed []) (lent (now (log .entry)) (now (table .entry)) (now (trail .entry))) w (lent (now (log .exit)) (now (table .exit)) (now (trail .exit))) ⌝ }
+{
+    let rule = first_rule(progress, given.roll, log, table, given.total);
+    if !is_rule(rule) {
+        let sent = Sent::none();
+        return Worked { progress, sent };
+    }
+    fire(
+        progress,
+        Sent::none(),
+        given,
+        rule,
+        State::FIRINGS - 1,
+        trail,
+        log,
+        table,
+    )
+}
+
 // An accepted input's whole work: a message goes in the log, start and a timer do what they do, and then the rules. The trail is empty
 // as it begins.
 pub fn work(
@@ -242,7 +272,6 @@ pub fn work(
     ensures { λ w. ⌜ Leaves-work i given progress (now (log .entry)) (now (table .entry)) w (lent (now (log .exit)) (now (table .exit)) (now (trail .exit))) ⌝ }
 {
     let kind = i.kind;
-    let sent = Sent::none();
     let roll = given.roll;
     if (Input::PROPOSAL <= kind) & (kind <= Input::PRECOMMIT) {
         let round = i.round;
@@ -255,12 +284,13 @@ pub fn work(
         };
         let good = i.verdict == 1;
         hear(o, i.sender as usize, good, trail, log, table);
-        return fire_any(progress, sent, given, trail, log, table);
+        return fire_first(progress, given, trail, log, table);
     }
     let begun = begin(progress, i, given);
     let next = begun.progress;
     let o = begun.output;
     let says = begun.sends & (o.kind <= Output::PRECOMMIT);
     hear_own(says, o, roll.own, trail, log, table);
-    fire_any(next, sent.send(begun.sends, o), given, trail, log, table)
+    let sent = Sent::none().send(begun.sends, o);
+    fire_any(next, sent, given, trail, log, table)
 }

@@ -1,5 +1,6 @@
 // Refusal 1: whether a voting state and a table are possible.
 use applies::when::first_rule;
+use roll::Power;
 use roll::Roll;
 use roll::Round;
 use rules::Held;
@@ -17,7 +18,7 @@ ghost use lib.Dec.{ltb};
 ghost use lib.ListN.{length, getD};
 ghost use Rattle.words.specs.Choice.{all-below, all-zero};
 ghost use Rattle.roll.specs.declared.Roll as rolls;
-ghost use Rattle.roll.specs.Weighing.{most-kiosks};
+ghost use Rattle.roll.specs.Weighing.{most-kiosks, total-of};
 ghost use Rattle.rules.specs.State.{most-rounds, state-of, unheard};
 ghost use Rattle.rules.specs.Log.{desk, told, table-length, proposal-place};
 ghost use Rattle.refusals.specs.Possible.{held-fits, fresh-fits, desk-fits};
@@ -113,12 +114,13 @@ fn fresh_fits(progress: Progress, log: &Log, table: &[u64]) -> bool
 }
 
 // The voting state and the table: once started, no rule may apply.
-pub fn desk_fits(progress: Progress, roll: Roll, log: &Log, table: &[u64]) -> bool
+pub fn desk_fits(progress: Progress, roll: Roll, total: Power, log: &Log, table: &[u64]) -> bool
+    requires { ⌜ (roll .kiosks ≤ most-kiosks → total .0 ≡ total-of roll) ⌝ }
     ensures { λ b. ⌜ b ≡ desk-fits (desk (state-of roll progress (now (log .entry))) (now (table .entry))) ⌝ }
 {
     let phase = progress.phase;
     let r = progress.stand.round;
-    if !roll.fits() {
+    if !roll.fits_with(total) {
         return false;
     }
     if !roll.own_fits() {
@@ -142,6 +144,5 @@ pub fn desk_fits(progress: Progress, roll: Roll, log: &Log, table: &[u64]) -> bo
     if is_fresh(phase) {
         return fresh_fits(progress, log, table);
     }
-    let total = roll.total();
     !is_rule(first_rule(progress, roll, log, table, total))
 }

@@ -15,7 +15,7 @@ ghost use lib.Dec.{eqb, leb};
 ghost use lib.ListN.{length, getD};
 ghost use Rattle.words.specs.Choice.{if_then_else_, all-below};
 ghost use Rattle.words.specs.Marks.{marked};
-ghost use Rattle.roll.specs.Weighing.{large, some, power-below, total-of, proposer, names, most-power, roll-fits, own-fits, roll-with};
+ghost use Rattle.roll.specs.Weighing.{large, some, power-below, total-of, proposer, names, most-kiosks, most-power, roll-fits, own-fits, roll-with};
 
 impl Power {
     // More than two thirds of the total.
@@ -125,6 +125,16 @@ impl Roll {
         weigh(&self.powers, self.kiosks, EVERY)
     }
 
+    // The total of a roll of at most 32 kiosks; a roll of more has none, and 0 stands for it.
+    pub fn whole(self) -> Power
+        ensures { λ r. ⌜ (self .kiosks ≤ most-kiosks → r .0 ≡ total-of self) ⌝ }
+    {
+        if Roll::MOST < self.kiosks {
+            return Power(0);
+        }
+        self.total()
+    }
+
     // Whose turn a round is.
     pub fn proposer(self, r: Round) -> usize
         requires { ⌜ 0 < self .kiosks ⌝ }
@@ -133,21 +143,22 @@ impl Roll {
         (self.height.0 as usize + r.0 as usize) % self.kiosks
     }
 
-    fn powers_fit(self) -> bool
-        requires { ⌜ self .kiosks ≤ 32 ⌝ }
-        ensures { λ r. ⌜ r ≡ all-below (self .kiosks) (λ i. leb (getD (self .powers) i 0) most-power) ⌝ }
+    fn powers_fit(powers: &[u16; 32], kiosks: usize) -> bool
+        requires { ⌜ kiosks ≤ 32 ⌝ }
+        ensures { λ r. ⌜ r ≡ all-below kiosks (λ i. leb (getD (now (powers .entry)) i 0) most-power) ⌝ }
     {
         let mut fit = true;
         let mut i: usize = 0;
-        while i < self.kiosks {
-            fit = fit & (self.powers[i] <= Roll::MOST_POWER);
+        while i < kiosks {
+            fit = fit & (powers[i] <= Roll::MOST_POWER);
             i += 1;
         }
         fit
     }
 
-    // Whether this is a roll within 01's numbers.
-    pub fn fits(self) -> bool
+    // Whether this is a roll within 01's numbers, its total known.
+    pub fn fits_with(self, total: Power) -> bool
+        requires { ⌜ (self .kiosks ≤ most-kiosks → total .0 ≡ total-of self) ⌝ }
         ensures { λ r. ⌜ r ≡ roll-fits self ⌝ }
     {
         if self.kiosks < 1 {
@@ -156,8 +167,14 @@ impl Roll {
         if Roll::MOST < self.kiosks {
             return false;
         }
-        let total = self.total();
-        self.powers_fit() & (1 <= total.0) & (total.0 <= Roll::MOST_TOTAL)
+        Roll::powers_fit(&self.powers, self.kiosks) & (1 <= total.0) & (total.0 <= Roll::MOST_TOTAL)
+    }
+
+    // Whether this is a roll within 01's numbers.
+    pub fn fits(self) -> bool
+        ensures { λ r. ⌜ r ≡ roll-fits self ⌝ }
+    {
+        self.fits_with(self.whole())
     }
 
     // Whether the own number is on the roll.

@@ -1,5 +1,5 @@
 -- `board::calls::slip_put` meets its contract. Assumes nothing.
-use mathlib.Core.Path.{sym, _∙_}
+use mathlib.Core.Path.{refl, sym, _∙_}
 use borrow.Author.Tests.{not-true, not-false}
 use Rattle.board.proofs.Through.{says, says-1}
 use borrow.Author.Needs.{needs}
@@ -38,8 +38,8 @@ same-length-2 c = search needs
 
 returns-2 : tie.Need-returns-2
 returns-2 c =
-    says _ _ _ _ _ _ _ _ _ _ _ (sym (c .before .before .before .before .before .before .before .before .before .before .before .before .before .before .holds .ensures) ∙ not-false _ (c .before .before .before .before .before .before .before .before .before .before .before .before .before .if1 .left)) (c .before .before .before .before .before .before .before .before .before .input-of .ensures) (c .before .before .before .before .before .before .before .before .before .before .before .before .roll-of .ensures)
-    (c .before .before .before .before .before .before .before .before .before .before .course-of .ensures) (c .before .before .before .before .before .put-lent .ensures) (c .flat-done .ensures)
+    says _ _ _ _ _ _ _ _ _ _ _ (sym (c .before .before .before .before .before .before .before .before .before .before .before .before .before .holds .ensures) ∙ not-false _ (c .before .before .before .before .before .before .before .before .before .before .before .before .if1 .left)) (c .before .before .before .before .before .before .before .before .before .input-of .ensures) refl
+    (c .before .before .before .before .before .before .before .before .before .before .before .course-of .ensures) (rw (c .before .before .before .before .before .before .before .before .before .before .roll-of .ensures) at (c .before .before .before .before .before .put-lent .ensures)) (c .flat-done .ensures)
 
 pub slip-put-spec : {M : Type 1} → statement M
 slip-put-spec =
@@ -48,8 +48,8 @@ slip-put-spec =
     holds-requires
     impossible-requires
     returns
-    roll-of-requires
     course-of-requires
+    roll-of-requires
     input-of-requires
     put-lent-requires
     flat-done-requires

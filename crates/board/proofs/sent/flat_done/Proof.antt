@@ -12,11 +12,11 @@ number-of-requires c κs = search needs
 place-of-requires : tie.Need-place-of-requires
 place-of-requires c κs = search needs
 
-flat-kiosk-requires : tie.Need-flat-kiosk-requires
-flat-kiosk-requires c κs = search needs
+with-course-requires : tie.Need-with-course-requires
+with-course-requires c κs = search needs
 
 returns : tie.Need-returns
-returns c = rw (c .flat-kiosk .ensures, c .before .place-of .ensures, c .before .before .number-of .ensures, c .before .before .before .flat-list .ensures)
+returns c = rw (c .with-course .ensures, c .before .place-of .ensures, c .before .before .number-of .ensures, c .before .before .before .flat-list .ensures)
 
 pub flat-done-spec : {M : Type 1} → statement M
-flat-done-spec = tie.close (tie.spec flat-list-requires number-of-requires place-of-requires flat-kiosk-requires returns)
+flat-done-spec = tie.close (tie.spec flat-list-requires number-of-requires place-of-requires with-course-requires returns)

@@ -19,7 +19,7 @@ state a = state-of (a .args .roll) (a .args .progress) (a .args .log .now)
 
 -- what is known where each test holds
 roll-fit : (c : tie.Else1) → roll-fits (c .before .before .before .before .args .roll) ≡ true
-roll-fit c = sym (c .before .fits2 .ensures) ∙ not-false (c .before .fits2 .result) (c .if1 .left)
+roll-fit c = sym (c .before .fits-with .ensures) ∙ not-false (c .before .fits-with .result) (c .if1 .left)
 
 own-fit : (c : tie.Else2) → own-fits (c .before .before .before .before .before .before .args .roll) ≡ true
 own-fit c = sym (c .before .own-fits .ensures) ∙ not-false (c .before .own-fits .result) (c .if2 .left)
@@ -43,11 +43,11 @@ of-rounds c =
     let a = c .before .before .before .before .before .before .before .before .before .before .before .before .before in
     rw (c .proposals-fit .ensures, c .before .marks-fit .ensures) (rounds-both (state a) (a .args .table .now) most-rounds)
 
-fits-requires : tie.Need-fits-requires
-fits-requires c κs = search needs
+fits-with-requires : tie.Need-fits-with-requires
+fits-with-requires c κs = c .before .before .pre
 
 returns : tie.Need-returns
-returns c = roll-not _ _ (sym (c .before .fits2 .ensures) ∙ not-true (c .before .fits2 .result) (c .if1 .taken))
+returns c = roll-not _ _ (sym (c .before .fits-with .ensures) ∙ not-true (c .before .fits-with .result) (c .if1 .taken))
 
 own-fits-requires : tie.Need-own-fits-requires
 own-fits-requires c κs = search needs
@@ -114,20 +114,18 @@ returns-8 c =
     fresh-then _ _ (has-begun (g .before .before .before)) (of-rounds (g .before)) (g .if6 .left) (h .before .held-fits .ensures) (h .held-fits2 .ensures) (k .if7 .left)
     (sym (f .before .is-fresh .ensures) ∙ f .if8 .taken) (let a = c .before .before .before .before .before .before .before .before .before .before .before .before .before .before .before .before .before .before .before .before .args in c .fresh-fits .ensures (a .roll))
 
-total-requires : tie.Need-total-requires
-total-requires c κs = few-kiosks _ (has-begun (c .before .before .before .before .before .before .before .before) .roll)
-
 first-rule-requires : tie.Need-first-rule-requires
 first-rule-requires c κs =
-    let e = has-begun (c .before .before .before .before .before .before .before .before .before) in
-    (ready _ _ (e .roll) (e .own) (e .places) (e .round), c .total .ensures)
+    let b = c .before .before .before .before .before .before .before .before in
+    let e = has-begun b in
+    (ready _ _ (e .roll) (e .own) (e .places) (e .round), b .before .before .before .before .before .before .before .before .before .before .before .pre (few-kiosks _ (e .roll)))
 
 is-rule-requires : tie.Need-is-rule-requires
 is-rule-requires c κs = search needs
 
 returns-9 : tie.Need-returns-9
 returns-9 c =
-    let f = c .before .before .before in
+    let f = c .before .before in
     let k = f .before .before in
     let h = k .before in
     let g = h .before .before in
@@ -138,7 +136,7 @@ pub desk-fits-spec : {M : Type 1} → statement M
 desk-fits-spec =
     tie.close
     (tie.spec
-    fits-requires
+    fits-with-requires
     returns
     own-fits-requires
     returns-2
@@ -157,7 +155,6 @@ desk-fits-spec =
     is-fresh-requires
     fresh-fits-requires
     returns-8
-    total-requires
     first-rule-requires
     is-rule-requires
     returns-9)

@@ -11,10 +11,10 @@ use Rattle.roll.proofs.Roll.powers_fit.Statement.{statement}
 use Rattle.roll.proofs.Roll.powers_fit.Tie as tie
 
 abbrev Inv-loop : tie.InvT-loop
-Inv-loop self fit₀ i₀ fit i = (i ≤ self .kiosks) × (fit ≡ all-below i (λ k. leb (getD (self .powers) k 0) most-power))
+Inv-loop powers kiosks fit₀ i₀ fit i = (i ≤ kiosks) × (fit ≡ all-below i (λ k. leb (getD powers k 0) most-power))
 
 abbrev μ-loop : tie.MeasureT-loop
-μ-loop self fit₀ i₀ fit i = self .kiosks - i
+μ-loop powers kiosks fit₀ i₀ fit i = kiosks - i
 
 loop-holds : tie.Need-loop-holds Inv-loop μ-loop
 unfolding all-below

@@ -1,7 +1,7 @@
--- `board::state::flat_kiosk` meets its contract. Assumes nothing.
+-- `board::state::with_course` meets its contract. Assumes nothing.
 use borrow.Author.Needs.{needs}
-use Rattle.board.proofs.state.flat_kiosk.Statement.{statement}
-use Rattle.board.proofs.state.flat_kiosk.Tie as tie
+use Rattle.board.proofs.state.with_course.Statement.{statement}
+use Rattle.board.proofs.state.with_course.Tie as tie
 
 phase-number-requires : tie.Need-phase-number-requires
 phase-number-requires c κs = search needs
@@ -27,5 +27,5 @@ flag-requires-4 c κs = search needs
 returns : tie.Need-returns
 returns c = rw (c .flag4 .ensures, c .before .flag3 .ensures, c .before .before .flag2 .ensures, c .before .before .before .flag .ensures, c .before .before .before .before .step-number .ensures, c .before .before .before .before .before .settled-round .ensures, c .before .before .before .before .before .before .phase-number .ensures)
 
-pub flat-kiosk-spec : {M : Type 1} → statement M
-flat-kiosk-spec = tie.close (tie.spec phase-number-requires settled-round-requires step-number-requires flag-requires flag-requires-2 flag-requires-3 flag-requires-4 returns)
+pub with-course-spec : {M : Type 1} → statement M
+with-course-spec = tie.close (tie.spec phase-number-requires settled-round-requires step-number-requires flag-requires flag-requires-2 flag-requires-3 flag-requires-4 returns)
