@@ -56,6 +56,9 @@ fn part(kiosk: &Kiosk, group: &[u8]) -> Part {
 /// What stands in an area before anything is written there.
 pub const JUNK: u8 = 0xa5;
 
+/// More bytes than the largest group has.
+const SPARE: usize = 128;
+
 /// What a caller owns.
 #[derive(Clone)]
 pub struct Lent {
@@ -117,14 +120,25 @@ impl Sides<'_> {
 
     /// The reply, and the lines of the rules that fired.
     pub fn put(&self, input: &Input, lent: &mut Lent) -> (Reply, Vec<u8>) {
-        let before = lent.clone();
+        let before = lent.kiosk;
+        let copies: Vec<Lent> = self.0.iter().map(|_| lent.clone()).collect();
         let (right, fired) = right_put(input, lent);
-        for engine in self.0 {
-            let (mut table, mut journal) = (before.table.clone(), before.journal.clone());
-            let is = (engine.put)(&before.kiosk, &flat_input(input), &mut table, &mut journal);
+        for (engine, mut copy) in self.0.iter().zip(copies) {
+            let put = engine.put;
+            let is = put(
+                &before,
+                &flat_input(input),
+                &mut copy.table,
+                &mut copy.journal,
+            );
             assert_eq!(is, right, "{}: putting {input:?}", engine.name);
-            same(engine, "table after putting", &table, &lent.table);
-            same(engine, "journal after putting", &journal, &lent.journal);
+            same(engine, "table after putting", &copy.table, &lent.table);
+            same(
+                engine,
+                "journal after putting",
+                &copy.journal,
+                &lent.journal,
+            );
         }
         lent.kiosk = right.kiosk;
         (right, fired)
@@ -152,7 +166,8 @@ impl Sides<'_> {
         lent
     }
 
-    /// So many puts, or a few more than it takes to settle; gives how many.
+    /// So many puts, or a few more than it takes to settle; gives how many. Each has room for its group and little more, so that
+    /// comparing all that is lent takes less time; the journal stays within its roomy size all the same.
     pub fn deliver(
         &self,
         delivery: &mut Delivery,
@@ -168,9 +183,11 @@ impl Sides<'_> {
                     return done;
                 }
             }
+            lent.journal.resize(lent.kiosk.used + SPARE, JUNK);
             let state = lent.state().expect("a state that calls left");
             let input = delivery.input(&state, &lent.table);
             let answer = self.put(&input, lent);
+            assert!(lent.kiosk.used <= second::roomy(lent.kiosk.kiosks));
             self.last(lent);
             met.put(&answer);
             if answer.0.number == 0 {
