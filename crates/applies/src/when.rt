@@ -37,9 +37,9 @@ ghost use Rattle.words.specs.Marks.{mark};
 ghost use Rattle.roll.specs.Weighing.{total-of};
 ghost use Rattle.rules.specs.State.{most-rounds, state-of, is-propose, is-prevote, spoken, good};
 ghost use Rattle.rules.specs.Log.{desk, table-length, told};
-ghost use Rattle.rules.specs.Rules.{is-rule, backed-sheet, applies-44, applies-47, from-47, from-34, first-rule};
+ghost use Rattle.rules.specs.Rules.{is-rule, backed-sheet, applies-28, applies-44, applies-47, from-47, from-34, first-rule};
 ghost use Rattle.rules.specs.contracts.Ready.{Ready};
-ghost use Rattle.applies.specs.contracts.Seen.{Wherever};
+ghost use Rattle.applies.specs.contracts.Seen.{Wherever, large-before};
 
 // Line 22: the round's proposal, with valid round -1.
 fn applies_22(stand: Stand, h: Heard) -> bool
@@ -55,6 +55,52 @@ fn proposed_before(stand: Stand, h: Heard) -> bool
 {
     let step = stand.step;
     is_propose(step) & (h.proposal != 0) & (1 <= h.valid) & (h.valid <= (stand.round.0 as u32))
+}
+
+// Line 28, its weighing: the prevotes of the valid round for the sheet that is proposed now. The roll is copied here alone, where there
+// is something to weigh, and not by what asks.
+fn large_before(
+    progress: Progress,
+    roll: Roll,
+    h: Heard,
+    log: &Log,
+    table: &[u64],
+    total: Power,
+) -> bool
+    requires { ⌜ Ready (state-of roll progress (now log)) (now table) × (total .0 ≡ total-of roll) × (1 ≤ h .valid) × (h .valid ≤ progress .stand .round .0) ⌝ }
+    ensures { λ r. ⌜ r ≡ large-before (desk (state-of roll progress (now (log .entry))) (now (table .entry))) (h .valid) ⌝ }
+{
+    let before = Round((h.valid - 1) as u8);
+    let there = heard(log, before);
+    let name = proposed(table, progress.stand.round);
+    is_large_named(
+        &roll.powers,
+        roll.kiosks,
+        there.prevotes,
+        table,
+        votes_place(Votes::Prevotes, before),
+        name,
+        total,
+    )
+}
+
+// Line 28.
+fn applies_28(
+    progress: Progress,
+    roll: Roll,
+    h: Heard,
+    log: &Log,
+    table: &[u64],
+    total: Power,
+) -> bool
+    requires { ⌜ Ready (state-of roll progress (now log)) (now table) × (total .0 ≡ total-of roll) × (h ≡ told (now log) (progress .stand .round .0)) ⌝ }
+    ensures { λ r. ⌜ r ≡ applies-28 (desk (state-of roll progress (now (log .entry))) (now (table .entry))) ⌝ }
+{
+    let stand = progress.stand;
+    if !proposed_before(stand, h) {
+        return false;
+    }
+    large_before(progress, roll, h, log, table, total)
 }
 
 // Line 34, all but its weighing.
@@ -268,21 +314,8 @@ pub fn first_rule(progress: Progress, roll: Roll, log: &Log, table: &[u64], tota
     if applies_22(stand, h) {
         return Rule::Line22;
     }
-    if proposed_before(stand, h) {
-        let before = Round((h.valid - 1) as u8);
-        let there = heard(log, before);
-        let name = proposed(table, now);
-        if is_large_named(
-            &roll.powers,
-            roll.kiosks,
-            there.prevotes,
-            table,
-            votes_place(Votes::Prevotes, before),
-            name,
-            total,
-        ) {
-            return Rule::Line28;
-        }
+    if applies_28(progress, roll, h, log, table, total) {
+        return Rule::Line28;
     }
     from_34(progress, roll, h, log, table, total)
 }
