@@ -1,6 +1,7 @@
 // What each rule, start and each timer does, as one act; the work of a call: the rules fired in turn, with the way back.
 pub mod doing;
 pub mod fire;
+pub mod within;
 
 use rules::Output;
 use rules::Progress;
@@ -20,6 +21,13 @@ pub type Trail = [u64; TRAIL];
 
 // The work of a call: the progress after it, and the outputs. The log, the table and the trail are in the lent arrays.
 pub struct Worked {
+    pub progress: Progress,
+    pub sent: Sent,
+}
+
+// The work of an input whose group fits: the progress after it, and the outputs. One whose group does not fit is taken back.
+pub struct Tried {
+    pub fits: bool,
     pub progress: Progress,
     pub sent: Sent,
 }
