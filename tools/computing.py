@@ -339,7 +339,7 @@ class Cases:
             yield "stories", lambda s=s: leaves(s), (s["sends"], s["after"], s["table-after"])
 
     def fields(self):
-        kiosk_number, input_number, layout = (self.of("board/specs/Fields", name) for name in ("kiosk-number", "input-number", "layout"))
+        kiosk_number, input_number, layout = (self.of("flat/specs/Fields", name) for name in ("kiosk-number", "input-number", "layout"))
         path = "examples/specs/Fields"
         kiosk, given = self.of(path, "numbered"), self.of(path, "numbered-input")
         for c in self.of(path, "numbers"):

@@ -8,11 +8,12 @@ ROOT = Path(__file__).resolve().parent.parent
 CRATES = ROOT / "crates"
 
 # The crates that hold the definitions, and in them what a public promise is made of: these and what they mention are changed.
-DEFINING = "words roll rules journal refusals kiosk listing board".split()
+DEFINING = "words roll rules journal refusals kiosk listing flat twins board".split()
 ROOTS = {
     "kiosk": "Says Opens Makes create put open-journal last-group",
     "listing": "Prints printed listing",
-    "board": "Creates board-create Opens board-open Says board-put last-part Lists board-list kiosk-number input-number layout",
+    "flat": "kiosk-number input-number layout",
+    "board": "Creates board-create Opens board-open Says board-put last-part Lists board-list",
 }
 
 # Fields are taken for each other where antt sees one type: a ℕ for any other. In a struct with more fields than this, only where the

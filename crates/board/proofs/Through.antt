@@ -20,12 +20,13 @@ use Rattle.kiosk.specs.Opening.{open-journal}
 use Rattle.kiosk.specs.Promises as Kiosk
 use Rattle.listing.specs.declared.Page.{Page}
 use Rattle.listing.specs.Listing.{printed, Prints}
-use Rattle.board.specs.declared.FlatKiosk.{FlatKiosk}
-use Rattle.board.specs.declared.FlatInput.{FlatInput}
-use Rattle.board.specs.declared.FlatReply.{FlatReply}
-use Rattle.board.specs.Flat.{holds, kiosk-of, course-of, input-of, flat-reply, impossible}
-use Rattle.board.specs.declared.FlatMade.{FlatMade}
-use Rattle.board.specs.declared.FlatPage.{FlatPage}
+use Rattle.flat.specs.declared.FlatKiosk.{FlatKiosk}
+use Rattle.flat.specs.declared.FlatInput.{FlatInput}
+use Rattle.flat.specs.declared.FlatReply.{FlatReply}
+use Rattle.twins.specs.Twins.{holds, kiosk-of, input-of, flat-reply, impossible}
+use Rattle.twins.specs.contracts.Parts.{course-of}
+use Rattle.flat.specs.declared.FlatMade.{FlatMade}
+use Rattle.flat.specs.declared.FlatPage.{FlatPage}
 use Rattle.board.specs.Board.{replied, board-create, board-open, board-put, last-part, board-list, Creates, Opens, Says, Lists}
 
 pub creates : (powers : List ℕ) (own height : ℕ) (journal after : List ℕ) (m : Made) (f : FlatMade)

@@ -2,12 +2,12 @@
 use Prim.Native.Nat.{ℕ}
 use mathlib.Core.Path.{_≡_, ap, sym}
 use mathlib.Core.List.{List, map}
-use Rattle.board.specs.declared.FlatKiosk.{FlatKiosk}
-use Rattle.board.specs.declared.FlatInput.{FlatInput}
-use Rattle.board.specs.declared.FlatReply.{FlatReply}
-use Rattle.board.specs.Flat.{holds}
-use Rattle.board.specs.declared.FlatMade.{FlatMade}
-use Rattle.board.specs.declared.FlatPart.{FlatPart}
+use Rattle.flat.specs.declared.FlatKiosk.{FlatKiosk}
+use Rattle.flat.specs.declared.FlatInput.{FlatInput}
+use Rattle.flat.specs.declared.FlatReply.{FlatReply}
+use Rattle.twins.specs.Twins.{holds}
+use Rattle.flat.specs.declared.FlatMade.{FlatMade}
+use Rattle.flat.specs.declared.FlatPart.{FlatPart}
 use Rattle.board.specs.Board.{board-create, board-open, board-put, last-part}
 use Rattle.examples.specs.Cases.{All, Call, Opening, Creating, Showing}
 use Rattle.examples.specs.Board.{Call-so, Opening-so, Creating-so, Showing-so}

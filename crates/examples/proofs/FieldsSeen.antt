@@ -4,9 +4,9 @@ use mathlib.Core.Path.{_≡_, refl, ap, sym}
 use mathlib.Core.List.{List}
 use Rattle.listing.specs.Text.{the-text}
 use Rattle.listing.specs.Listing.{the-listing}
-use Rattle.board.specs.declared.FlatPage.{FlatPage}
+use Rattle.flat.specs.declared.FlatPage.{FlatPage}
 use Rattle.board.specs.Board.{Lists, board-list}
-use Rattle.board.specs.Fields.{plain-number, kiosk-number, input-number, layout}
+use Rattle.flat.specs.Fields.{plain-number, kiosk-number, input-number, layout}
 use Rattle.examples.specs.Fields.{numbered, numbered-input, Number, numbers, input-numbers, Laid, layouts, Paged, pages, Seen}
 use Rattle.examples.proofs.Each.{all-so}
 use Rattle.examples.proofs.Kiosk.{the-kiosk}

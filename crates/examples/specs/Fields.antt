@@ -4,13 +4,13 @@ use Prim.Native.Nat.{ℕ}
 use mathlib.Core.Path.{_≡_}
 use mathlib.Core.List.{List, [], _∷_, _++_}
 use lib.ListN.{replicate}
-use Rattle.board.specs.declared.FlatKiosk.{FlatKiosk}
-use Rattle.board.specs.declared.FlatInput.{FlatInput}
-use Rattle.board.specs.declared.FlatReply.{FlatReply}
+use Rattle.flat.specs.declared.FlatKiosk.{FlatKiosk}
+use Rattle.flat.specs.declared.FlatInput.{FlatInput}
+use Rattle.flat.specs.declared.FlatReply.{FlatReply}
 use Rattle.listing.proofs.Texts.{refused-13}
-use Rattle.board.specs.declared.FlatPage.{FlatPage}
+use Rattle.flat.specs.declared.FlatPage.{FlatPage}
 use Rattle.board.specs.Board.{Lists, board-list}
-use Rattle.board.specs.Fields.{kiosk-number, input-number, layout}
+use Rattle.flat.specs.Fields.{kiosk-number, input-number, layout}
 use Rattle.examples.specs.Cases.{All}
 use Rattle.examples.specs.Flat.{out}
 

@@ -4,12 +4,12 @@ use mathlib.Core.List.{List, [], _++_}
 use lib.ListN.{length, replicate}
 use Rattle.roll.specs.declared.Roll.{Roll}
 use Rattle.rules.specs.declared.Held.{Held}
-use Rattle.board.specs.declared.FlatKiosk.{FlatKiosk}
-use Rattle.board.specs.declared.FlatInput.{FlatInput}
-use Rattle.board.specs.declared.FlatOutput.{FlatOutput}
-use Rattle.board.specs.declared.FlatReply.{FlatReply}
-use Rattle.board.specs.declared.FlatMade.{FlatMade}
-use Rattle.board.specs.declared.FlatPart.{FlatPart}
+use Rattle.flat.specs.declared.FlatKiosk.{FlatKiosk}
+use Rattle.flat.specs.declared.FlatInput.{FlatInput}
+use Rattle.flat.specs.declared.FlatOutput.{FlatOutput}
+use Rattle.flat.specs.declared.FlatReply.{FlatReply}
+use Rattle.flat.specs.declared.FlatMade.{FlatMade}
+use Rattle.flat.specs.declared.FlatPart.{FlatPart}
 use Rattle.examples.specs.Cases.{Call, puts, Opening, Creating, Showing, Cases}
 
 -- kind, sender, round, valid round plus one, verdict, name, offer, as in a journal; and the height

@@ -5,11 +5,11 @@ const HEAD: &str = "\
 use Prim.Native.Nat.{ℕ}
 use mathlib.Core.List.{List, [], _∷_}
 use Rattle.rules.proofs.Whole.{at, spread, table, roll, held, log}
-use Rattle.board.specs.declared.FlatKiosk.{FlatKiosk}
-use Rattle.board.specs.declared.FlatInput.{FlatInput}
-use Rattle.board.specs.declared.FlatReply.{FlatReply}
-use Rattle.board.specs.declared.FlatMade.{FlatMade}
-use Rattle.board.specs.declared.FlatPart.{FlatPart}
+use Rattle.flat.specs.declared.FlatKiosk.{FlatKiosk}
+use Rattle.flat.specs.declared.FlatInput.{FlatInput}
+use Rattle.flat.specs.declared.FlatReply.{FlatReply}
+use Rattle.flat.specs.declared.FlatMade.{FlatMade}
+use Rattle.flat.specs.declared.FlatPart.{FlatPart}
 use Rattle.examples.specs.Cases.{Call, puts, Opening, opens, Creating, creates, Showing, shows}
 use Rattle.examples.specs.Flat.{input, out, kiosk, reply, refuses, made, part, Calls}
 ";

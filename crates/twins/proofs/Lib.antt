@@ -1,0 +1,3 @@
+-- Laws of the flat twins.
+pub mod Mapping
+pub mod Back
