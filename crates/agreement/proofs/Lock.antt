@@ -8,7 +8,7 @@ use native.Mathlib.Omega.{arith}
 use Rattle.words.specs.Members.{In}
 use Rattle.words.proofs.Choice.{zero-one}
 use Rattle.words.proofs.Members.{In-split, In-last}
-use Rattle.agreement.specs.Moves.{Out, prevote, precommit, settled, View, SameLock, Quiet, Move, quiet, enter, prevote-nil, prevote-new, prevote-old, precommit-nil, precommit-sheet, settle, Kept}
+use Rattle.agreement.specs.Moves.{Out, prevote, precommit, settled, View, SameLock, No-vote, Move, waits, enter, prevote-nil, prevote-new, prevote-old, precommit-nil, precommit-sheet, settle, Kept}
 
 prevote-round : {r w r′ w′ : ℕ} → prevote r w ≡ prevote r′ w′ → r ≡ r′
 prevote-round e = cc
@@ -171,8 +171,8 @@ module _ (PV PC : ℕ → ℕ → Type 0) (a b : View) (os o : List Out) (k : Ke
           settled-backed = λ r w h. k .settled-backed r w (settled-before r w h);
         }
 
-  quiet-still : Quiet o → (b .step ≤ 2) → (3 * a .round + a .step ≤ 3 * b .round + b .step) → SameLock a b → Kept PV PC b (os ++ o)
-  quiet-still q hs hc s =
+  no-vote-still : No-vote o → (b .step ≤ 2) → (3 * a .round + a .step ≤ 3 * b .round + b .step) → SameLock a b → Kept PV PC b (os ++ o)
+  no-vote-still q hs hc s =
       still hs hc s
       (λ r w h. ⊎-elim (λ g. g) (λ g. absurd ((q r w) .0 g)) (In-split (prevote r w) os o h))
       (λ r w h. ⊎-elim (λ g. g) (λ g. absurd ((q r w) .1 g)) (In-split (precommit r w) os o h))
@@ -186,8 +186,8 @@ module _ (PV PC : ℕ → ℕ → Type 0) (a b : View) (os o : List Out) (k : Ke
       (a .lr - 1, omega arith, omega (arith, k .lock-past), rw e at (k .lock-backed (a .lr - 1) el))
 
   pub kept : Move PV PC a o b → Kept PV PC b (os ++ o)
-  kept (quiet q er es s) = quiet-still q (omega (arith, k .step-ok)) (omega arith) s
-  kept (enter q er es s) = quiet-still q (omega arith) (omega (arith, k .step-ok)) s
+  kept (waits q er es s) = no-vote-still q (omega (arith, k .step-ok)) (omega arith) s
+  kept (enter q er es s) = no-vote-still q (omega arith) (omega (arith, k .step-ok)) s
   kept (prevote-nil eo ha hb hr s) = prevoting 0 eo ha hb hr s (λ n. absurd (n refl))
   kept (prevote-new w eo ha hb hr s c) =
       prevoting w eo ha hb hr s (λ n r₀ h. ⊎-elim (λ e. absurd (omega arith)) (λ e. again w r₀ ha e h) c)

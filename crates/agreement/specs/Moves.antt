@@ -24,15 +24,15 @@ pub record SameLock (a b : View) : Type 0 where
   pub lr : b .lr ≡ a .lr
   pub lv : b .lv ≡ a .lv
 
-abbrev pub Quiet : List Out → Type 0
-Quiet o =
+abbrev pub No-vote : List Out → Type 0
+No-vote o =
     (r w : ℕ) → (In (prevote r w) o → ⊥) × (In (precommit r w) o → ⊥) × (In (settled r w) o → ⊥)
 
 pub data Move (PV PC : ℕ → ℕ → Type 0) (a : View) (o : List Out) (b : View) : Type 0 where
   -- 34, 47, a proposal heard late, start
-  quiet : Quiet o → b .round ≡ a .round → b .step ≡ a .step → SameLock a b → Move PV PC a o b
+  waits : No-vote o → b .round ≡ a .round → b .step ≡ a .step → SameLock a b → Move PV PC a o b
   -- 55, line 67
-  enter : Quiet o → a .round < b .round → b .step ≡ 0 → SameLock a b → Move PV PC a o b
+  enter : No-vote o → a .round < b .round → b .step ≡ 0 → SameLock a b → Move PV PC a o b
   -- 26, 32, 59
   prevote-nil : o ≡ prevote (a .round) 0 ∷ [] → a .step ≡ 0 → b .step ≡ 1 → b .round ≡ a .round → SameLock a b → Move PV PC a o b
   -- 24

@@ -92,7 +92,7 @@ module _ (ps : Scale) (keeps : Seats) (engine : ℕ → Engine) where
         w′ .air ≡ by i o ∷ w .air →
         Step w w′
 
-  -- what steps lead to, from kiosks without a journal and a silent radio
+  -- what steps lead to, from kiosks without a journal and nothing on the air
   pub data Reach (S : World → World → Type 0) : World → Type 0 where
     begin : {w : World} → ((i : ℕ) → w .board i ≡ off []) → w .air ≡ [] → Reach S w
     next : {w w′ : World} → Reach S w → S w w′ → Reach S w′

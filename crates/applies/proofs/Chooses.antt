@@ -65,20 +65,20 @@ module _ (s : State) (t : List ℕ) (r : ℕ) {h : Heard} (e : h ≡ told (s .lo
 
   no-messages : unheard h ≡ true → message-power (desk s t) r ≡ 0
   unfolding message-power
-  no-messages quiet =
+  no-messages none =
       let a = eqb (h .proposal) 0 in
       let b = eqb (h .prevotes) 0 in
       let c = eqb (h .precommits) 0 in
-      let ab = and-left (a && b) c quiet in
+      let ab = and-left (a && b) c none in
       let p : h .proposal ≡ 0 = eqb-true (h .proposal) 0 (and-left a b ab) in
       let v : h .prevotes ≡ 0 = eqb-true (h .prevotes) 0 (and-right a b ab) in
-      let w : h .precommits ≡ 0 = eqb-true (h .precommits) 0 (and-right (a && b) c quiet) in
+      let w : h .precommits ≡ 0 = eqb-true (h .precommits) 0 (and-right (a && b) c none) in
       power-none (s .roll .powers) _ (s .roll .kiosks) (λ i l. rw (← e, p, v, w, marked-zero i))
 
   -- where nothing is heard of it, it does not call
-  pub silent-calls-not : unheard h ≡ true → calls (desk s t) r ≡ false
+  pub unheard-calls-not : unheard h ≡ true → calls (desk s t) r ≡ false
   unfolding calls
-  silent-calls-not quiet = and-false (ltb (current (desk s t)) r) _ (λ l. rw (no-messages quiet) (le-ltb (total-of (s .roll)) 0 (omega arith)))
+  unheard-calls-not none = and-false (ltb (current (desk s t)) r) _ (λ l. rw (no-messages none) (le-ltb (total-of (s .roll)) 0 (omega arith)))
 
 -- line 55: a round ahead calls where its messages have some power
 pub calls-so : (s : State) (t : List ℕ) (r : ℕ) {power total : ℕ} {b : Bool} → s .progress .stand .round .0 < r → power ≡ message-power (desk s t) r

@@ -35,9 +35,9 @@ pub first-fits : (s : State) (t : List ℕ) → rule-fits (first-rule (desk s t)
 unfolding applies-49 applies-55 past-calling-round
 first-fits s t =
     let d = desk s t in
-    by-rule rule-fits d (λ e. tt) (λ run quiet n49 n55. tt) (λ run e. tt) (λ run e. tt) (λ run e. tt) (λ run e. tt) (λ run e. tt) (λ run e. tt)
-    (λ run quiet e. ltb-true (closing-round d) (d .rounds) e)
-    (λ run quiet n49 e. highest-passes (d .rounds) (λ q. calls d q) (leb-true 1 (past-calling-round d) e) .1)
+    by-rule rule-fits d (λ e. tt) (λ run none n49 n55. tt) (λ run e. tt) (λ run e. tt) (λ run e. tt) (λ run e. tt) (λ run e. tt) (λ run e. tt)
+    (λ run none e. ltb-true (closing-round d) (d .rounds) e)
+    (λ run none n49 e. highest-passes (d .rounds) (λ q. calls d q) (leb-true 1 (past-calling-round d) e) .1)
 
 -- the own seat is one of 32
 pub own-seat : (s : State) (t : List ℕ) → Ready s t → s .roll .own < 32
@@ -195,9 +195,9 @@ module _
         Leaves (fire-all (left + 1) offer (midway (state-of roll votes l) t (so-far sent))) (undone trail t) (state-of roll (a .progress) l′) sent′ trail′ t′
     ends-last e = leaves-next (ends-none-left left offer roll (a .progress) l′ sent′ trail′ t′ firing-next e)
 
-    pub ends-quiet : (later : Rule) {b : Bool} → later ≡ first-rule (desk (state-of roll (a .progress) l′) t′) → b ≡ is-rule later → not b ≡ true →
+    pub ends-here : (later : Rule) {b : Bool} → later ≡ first-rule (desk (state-of roll (a .progress) l′) t′) → b ≡ is-rule later → not b ≡ true →
         Leaves (fire-all (left + 1) offer (midway (state-of roll votes l) t (so-far sent))) (undone trail t) (state-of roll (a .progress) l′) sent′ trail′ t′
-    ends-quiet later which-later e n = leaves-next (ends-no-rule left offer roll (a .progress) l′ sent′ trail′ t′ firing-next later which-later e n)
+    ends-here later which-later e n = leaves-next (ends-no-rule left offer roll (a .progress) l′ sent′ trail′ t′ firing-next later which-later e n)
 
     -- or the next one fires
     pub fires-on : (left ≡ 0 → ⊥) → Firing (left - 1 + 1) offer (state-of roll (a .progress) l′) sent′ trail′ t′

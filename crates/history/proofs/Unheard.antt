@@ -126,8 +126,8 @@ placed-after p i t h =
     rw (rounds-stay p i) at (works-placed d i few h (accepted-passes (p .kiosk .used) (p .kiosk) (p .table) i t))
 
 -- places not heard hold 0
-pub silent-places : {roll : Roll} {cs : List Call} {p : Past} → History roll cs p → Unheard-zero (rounds-of (p .kiosk .state)) (p .kiosk .state .log) (p .table)
-silent-places {roll} h =
+pub unheard-places : {roll : Roll} {cs : List Call} {p : Past} → History roll cs p → Unheard-zero (rounds-of (p .kiosk .state)) (p .kiosk .state .log) (p .table)
+unheard-places {roll} h =
     let own = ltb-true (roll .own) (roll .kiosks) (h .created .own) in
     history-keeps Placed-past placed-after h
     (record {

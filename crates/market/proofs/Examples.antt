@@ -19,7 +19,7 @@ use Rattle.agreement.specs.Weigh.{Seats}
 use Rattle.agreement.specs.Moves.{Out, proposal, prevote, precommit, settled, other}
 use Rattle.agreement.specs.System.{off, next}
 use Rattle.market.specs.Demand3.{roll-at, World, Step, Reached, Leads, here, further, Put-out}
-use Rattle.market.proofs.Schedule.{memory-after, cut-file, kiosk-after, Setting, Reached-with, Keeper, Story, the-stories, first-part, creates, may-none, may-own, may-breaker, may-sent, begins, leads-on, powered, called, interrupted, recovers, spoke, story-out, out-story, silent}
+use Rattle.market.proofs.Schedule.{memory-after, cut-file, kiosk-after, Setting, Reached-with, Keeper, Story, the-stories, first-part, creates, may-none, may-own, may-breaker, may-sent, begins, leads-on, powered, called, interrupted, recovers, spoke, story-out, out-story, says-nothing}
 
 -- ## Inputs of height 2, all of round 0
 
@@ -192,4 +192,4 @@ nobody-settles =
     no-one : (t : (w : World even 2 but-two) × Told-both even w) (i r u : ℕ) → i < 4 → but-two i ≡ true → Put-out even 2 but-two (t .0) i (settled r u) → ⊥
     no-one t zero r u on-roll rule o = not-settled (out-story (honest-at even even-fits) (t .0) (record { on-roll = on-roll; rule = rule }) (story 5) (t .1 .five) even-five o)
     no-one t (suc zero) r u on-roll rule o = not-settled (out-story (honest-at even even-fits) (t .0) (record { on-roll = on-roll; rule = rule }) (story 6) (t .1 .six) even-six o)
-    no-one t (suc (suc i)) r u on-roll rule o = silent (honest-at even even-fits) (t .0) (record { on-roll = on-roll; rule = rule }) (t .1 .no-more (suc (suc i)) (omega arith)) o
+    no-one t (suc (suc i)) r u on-roll rule o = says-nothing (honest-at even even-fits) (t .0) (record { on-roll = on-roll; rule = rule }) (t .1 .no-more (suc (suc i)) (omega arith)) o

@@ -29,7 +29,7 @@ use Rattle.kiosk.proofs.Accepted.{Passes, accepted-fits, accepted-passes}
 use Rattle.kiosk.proofs.Taken.{Message, Taken, starts, hears-proposal, hears-vote, timer, call-keeps}
 use Rattle.kiosk.proofs.Kept.{worked-sound}
 use Rattle.history.specs.Histories.{Call, Past, does, after, takes, Told, told-none, told-more, beginning, History, sent-in}
-use Rattle.agreement.specs.Moves.{Out, quiet}
+use Rattle.agreement.specs.Moves.{Out, waits}
 use Rattle.agreement.specs.Weigh.{scale-of}
 use Rattle.agreement.specs.Honest.{said, Arrived, Honest}
 use Rattle.market.specs.Seat.{acts, brings, step-number, view}
@@ -75,7 +75,7 @@ module _ (roll : Roll) (A : Arrived) (few : roll .kiosks ≤ 32) (own-seat : rol
         (start-next roll A few own-seat before (i .offer) 0 r
         (record { logs = logs-same roll A (before ++ acts (d .sent)) d r (g .logs) refl refl (g .logs .round) refl refl; kept = g .kept })
         (omega arith)
-        (λ os o q. quiet q (sym (f .0)) (sym (f .1)) (record { lr = refl; lv = refl })))
+        (λ os o q. waits q (sym (f .0)) (sym (f .1)) (record { lr = refl; lv = refl })))
     taken-next u begun (hears-proposal m k turn some low n e) = subst Goes (sym e) heard-proposal
     taken-next u begun (hears-vote v m k n e) = subst Goes (sym e) (heard-message v m k)
     taken-next u begun (timer run late did) = deed-next roll A few own-seat before (i .offer) d u did g

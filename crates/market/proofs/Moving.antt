@@ -18,7 +18,7 @@ use Rattle.rules.specs.Log.{Desk, with-state, message, hear-proposal, hear-vote
 use Rattle.rules.specs.Doing.{current, step, own, step-of, output, sheet-to-propose, propose, vote, ask, start-round}
 use Rattle.rules.specs.Rules.{is-large, fire-49}
 use Rattle.rules.proofs.Deeds.{Why-prevote, nil, afresh, again, Closes, holding, Deed, prevotes, precommits-nil, locks, holds, asks-prevote, asks-precommit, settles, enters}
-use Rattle.agreement.specs.Moves.{Out, settled, proposal, other, View, SameLock, Quiet, Move, quiet, enter, prevote-nil, prevote-new, prevote-old, precommit-nil, precommit-sheet, settle}
+use Rattle.agreement.specs.Moves.{Out, settled, proposal, other, View, SameLock, No-vote, Move, waits, enter, prevote-nil, prevote-new, prevote-old, precommit-nil, precommit-sheet, settle}
 use Rattle.agreement.specs.Honest.{pv, pc, said, Arrived}
 use Rattle.market.specs.Seat.{act, acts, step-number, view}
 use Rattle.market.proofs.Votes.{kind-of}
@@ -26,11 +26,11 @@ use Rattle.market.proofs.Steps.{at-propose, at-prevote}
 use Rattle.market.proofs.Good.{acts-more, Hears, Logs, Good, heard-more, logs-more, logs-same, advance, own-vote, vote-logs, proposal-logs, votes-heard}
 
 -- a timer, and a proposal, is no vote and no settling
-quiet-other : Quiet (other ∷ [])
-quiet-other r w = (⊎-elim (λ e. zero-one (cc)) (λ h. h), ⊎-elim (λ e. zero-one (cc)) (λ h. h), ⊎-elim (λ e. zero-one (cc)) (λ h. h))
+no-vote-other : No-vote (other ∷ [])
+no-vote-other r w = (⊎-elim (λ e. zero-one (cc)) (λ h. h), ⊎-elim (λ e. zero-one (cc)) (λ h. h), ⊎-elim (λ e. zero-one (cc)) (λ h. h))
 
-quiet-proposal : (l : List ℕ) → Quiet (proposal l ∷ [])
-quiet-proposal l r w = (⊎-elim (λ e. zero-one (cc)) (λ h. h), ⊎-elim (λ e. zero-one (cc)) (λ h. h), ⊎-elim (λ e. zero-one (cc)) (λ h. h))
+no-vote-proposal : (l : List ℕ) → No-vote (proposal l ∷ [])
+no-vote-proposal l r w = (⊎-elim (λ e. zero-one (cc)) (λ h. h), ⊎-elim (λ e. zero-one (cc)) (λ h. h), ⊎-elim (λ e. zero-one (cc)) (λ h. h))
 
 -- where a kiosk stands once it is at this step of this round, with the lock that it has
 abbrev standing : ℕ → ℕ → Desk → View
@@ -90,7 +90,7 @@ module _ (roll : Roll) (A : Arrived) (few : roll .kiosks ≤ 32) (own-seat : rol
 
   -- a round entered, with a proposal or a timer
   pub start-next : (offer r : ℕ) (d : Desk) → Next d → r < most-rounds →
-      ((os o : List Out) → Quiet o → Moves os (view d) o (standing r 0 d)) → Next (start-round offer r d)
+      ((os o : List Out) → No-vote o → Moves os (view d) o (standing r 0 d)) → Next (start-round offer r d)
   unfolding start-round propose ask message hear-proposal
   start-next offer r d g hr m =
       let e = with-state (with-stand (entered r) (d .state)) d in
@@ -103,8 +103,8 @@ module _ (roll : Roll) (A : Arrived) (few : roll .kiosks ≤ 32) (own-seat : rol
       by-test Next (eqb (proposer (d .state .roll) r) (own d) && not (eqb sheet 0))
       (λ t.
       told-next d p (output 1 r valid sheet) g refl (logs-same roll A os h p (proposal-logs roll A few os e l r true valid sheet) refl refl hr refl refl)
-      (m _ _ (quiet-proposal (r ∷ valid ∷ sheet ∷ []))))
-      (λ t. told-next d (ask Propose e) (output 4 r 0 0) g refl (logs-same roll A os e (ask Propose e) l refl refl hr refl refl) (m _ _ quiet-other))
+      (m _ _ (no-vote-proposal (r ∷ valid ∷ sheet ∷ []))))
+      (λ t. told-next d (ask Propose e) (output 4 r 0 0) g refl (logs-same roll A os e (ask Propose e) l refl refl hr refl refl) (m _ _ no-vote-other))
 
   -- ## Each deed
 
@@ -131,8 +131,8 @@ module _ (roll : Roll) (A : Arrived) (few : roll .kiosks ≤ 32) (own-seat : rol
     next-asked : Next (ask Prevote d) × Next (ask Precommit d)
     unfolding ask
     next-asked = (
-      told-next d (ask Prevote d) (output 5 (current d) 0 0) g refl (same-log (ask Prevote d) refl refl refl refl refl) (quiet quiet-other refl refl stays),
-      told-next d (ask Precommit d) (output 6 (current d) 0 0) g refl (same-log (ask Precommit d) refl refl refl refl refl) (quiet quiet-other refl refl stays),
+      told-next d (ask Prevote d) (output 5 (current d) 0 0) g refl (same-log (ask Prevote d) refl refl refl refl refl) (waits no-vote-other refl refl stays),
+      told-next d (ask Precommit d) (output 6 (current d) 0 0) g refl (same-log (ask Precommit d) refl refl refl refl refl) (waits no-vote-other refl refl stays),
     )
 
     next-settled : (r name : ℕ) → Closes d r name → Next (fire-49 r name d)

@@ -259,7 +259,7 @@ pub record Setting : Type 1 where
   pub onward : (w w′ : World powers height keeps) → came w → Step powers height keeps w w′ → came w′
 
 module _ (powers : List ℕ) (height : ℕ) (keeps : Seats) where
-  -- kiosks without a journal and a silent radio
+  -- kiosks without a journal and nothing on the air
   abbrev pub unbegun : World powers height keeps
   unbegun = record { board = λ i. off []; air = [] }
 
@@ -418,9 +418,9 @@ module _ (m : Setting) where
       out-story (asleep d p used eb op a) = absurd (zero-one (cc))
 
     -- by one without a journal: nothing
-    pub silent : w .board i ≡ off [] → {o : Out} → Out-of o → ⊥
-    silent e (awake p d eb a) = zero-one (cc)
-    silent e (asleep d p used eb op a) =
+    pub says-nothing : w .board i ≡ off [] → {o : Out} → Out-of o → ⊥
+    says-nothing e (awake p d eb a) = zero-one (cc)
+    says-nothing e (asleep d p used eb op a) =
         let c = creates (m .powers) (m .height) (m .fits) (m .tall) i (k .on-roll) in
         let no-byte : d ≡ [] = cc in
         let short : op .reply .answer ≡ HeaderShort

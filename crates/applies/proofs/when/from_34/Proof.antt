@@ -16,7 +16,7 @@ use Rattle.rules.specs.Log.{desk, told}
 use Rattle.rules.specs.Rules.{closing-sheet, closing-round, calls, past-calling-round, from-49, from-47, from-34}
 use Rattle.applies.specs.contracts.Seen.{Seen}
 use Rattle.applies.proofs.Weighs.{turn-below, large-for, senders-weigh}
-use Rattle.applies.proofs.Chooses.{bad-passed, closes-so, closes-with, silent-calls-not, calls-so, none-calls, none-closes, far-49, far-55, far-none}
+use Rattle.applies.proofs.Chooses.{bad-passed, closes-so, closes-with, unheard-calls-not, calls-so, none-calls, none-closes, far-49, far-55, far-none}
 use Rattle.applies.proofs.when.from_34.Statement.{statement}
 use Rattle.applies.proofs.when.from_34.Tie as tie
 
@@ -164,7 +164,7 @@ loop2-again c =
     let l = c .before .before .before .before .before .before .before .loop2 in
     let a = c .before .before .before .before .before .before .before .before .before .before .before .before .before .before .before .before .before .before .before .before .before .before .before in
     let g : l .past ≡ suc (l .past - 1) = omega (arith, c .before .before .before .before .before .if4 .taken) in
-    (omega (arith, l .inv .0), λ v here. l .inv .1 v here ∙ highest-less (l .past - 1) _ g (silent-calls-not (voted a v) (a .args .table .now) (l .past - 1) (c .before .before .before .before .heard-in2 .ensures) (c .if5 .taken)))
+    (omega (arith, l .inv .0), λ v here. l .inv .1 v here ∙ highest-less (l .past - 1) _ g (unheard-calls-not (voted a v) (a .args .table .now) (l .past - 1) (c .before .before .before .before .heard-in2 .ensures) (c .if5 .taken)))
 
 sub-t31 : tie.Need-sub-t31 Inv-loop μ-loop Inv-loop2 μ-loop2
 sub-t31 c = omega (arith, c .before .before .before .before .before .if4 .taken)

@@ -3,7 +3,7 @@ use mathlib.Core.Path.{_∙_}
 use mathlib.Core.Bool.{false≢true}
 use native.Mathlib.Omega.{arith}
 use Rattle.words.proofs.Choice.{by-cases}
-use Rattle.firing.proofs.Fires.{first-fits, own-seat, says-there, applies, room-to-send, room-to-say, firing-next, ends-last, ends-quiet, fires-on, leaves-on}
+use Rattle.firing.proofs.Fires.{first-fits, own-seat, says-there, applies, room-to-send, room-to-say, firing-next, ends-last, ends-here, fires-on, leaves-on}
 use Prim.Native.Nat.{ℕ, _<_}
 use borrow.Fn.Kinds.{In}
 use borrow.Fn.PlainCycle.{Measures, is, falls, and}
@@ -192,7 +192,7 @@ fire-returns-2 : (t : ℕ) → fire-lts.Need-returns-2 (
 fire-returns-2 t c =
     let start = c .before .before .before .before .before .before .before .before .before .before .before .before .before .before .before .before .before .before .before .before .before .before in
     let the-act-on = c .before .before .before .before .before .before .before .before .before .before .before .before .before .before .before .before .before .before .act-on in
-    ends-quiet (start .args .left) _ _ _ _ _ _ _ _ (the-act-on .result) (start .pre .1 .0) (start .pre .1 .1) (start .pre .1 .2) (the-act-on .ensures .0) (c .before .before .before .before .before .before .before .before .before .hear-own .ensures) (c .before .before .before .before .before .before .send .ensures) _ (c .before .before .first-rule .ensures) (c .before .is-rule .ensures) (c .if2 .taken)
+    ends-here (start .args .left) _ _ _ _ _ _ _ _ (the-act-on .result) (start .pre .1 .0) (start .pre .1 .1) (start .pre .1 .2) (the-act-on .ensures .0) (c .before .before .before .before .before .before .before .before .before .hear-own .ensures) (c .before .before .before .before .before .before .send .ensures) _ (c .before .before .first-rule .ensures) (c .before .is-rule .ensures) (c .if2 .taken)
 
 fire-sub-fire : (t : ℕ) → fire-lts.Need-sub-fire (
   act-on-reads.Asked,
