@@ -10,24 +10,22 @@ FUZZ_SECONDS ?= 60
 # Checks at a time: two to a core keep both cores busy while the last of a batch ends.
 export RT_JOBS ?= 4
 
-.PHONY: test rust board told mutants edits soak fuzz bench demo staticlib tools emulator native
+.PHONY: test rust board told mutants edits soak fuzz bench demo staticlib tools emulator cross native
 
 INSTALL := apt-get update && apt-get install -y
 # $(call need,COMMAND,PACKAGE)
 need = @command -v $(1) > /dev/null || { $(INSTALL) $(2); }
 
-# What rt compiles is x86-64 code on every machine. Where the machine is another, Debian's cargo builds what links it and an emulator runs it.
-# Cargo reads the linker and the runner under these names, and so do the tests in C.
-# The emulator does `rep movsb` byte by byte: without erms, which offers it, and in one codegen unit the tests take less time.
+# What rt compiles is x86-64 code on every machine. Where the machine is another, C programs that link it are built for x86-64 and run in an
+# emulator. Cargo reads the linker and the runner of x86-64 programs under these names, and so do the tests, which are built for the machine.
+# The emulator does `rep movsb` byte by byte: without erms, which offers it, the programs take less time.
 MACHINE := $(shell uname -m)
 X86 := x86_64-unknown-linux-gnu
-BOARD_CARGO := $(CARGO)
 ifneq ($(MACHINE),x86_64)
-BOARD_CARGO := CARGO_BUILD_TARGET=$(X86) CARGO_PROFILE_RELEASE_CODEGEN_UNITS=1 RUSTC=/usr/bin/rustc /usr/bin/$(CARGO)
 export CARGO_TARGET_X86_64_UNKNOWN_LINUX_GNU_LINKER := x86_64-linux-gnu-gcc
 RUNNER := qemu-x86_64 -cpu max,-erms
 export CARGO_TARGET_X86_64_UNKNOWN_LINUX_GNU_RUNNER := $(RUNNER)
-EMULATOR := cargo-web rustc-web libstd-rust-web-dev:amd64 gcc-x86-64-linux-gnu libc6-dev-amd64-cross qemu-user
+EMULATOR := gcc-x86-64-linux-gnu libc6-dev-amd64-cross libc6:amd64 qemu-user
 endif
 
 # The proofs, the must-fail edits and the programs; then the library that firmware links, from the stamps that rt ci leaves, and the Rust tests.
@@ -45,7 +43,7 @@ rust: tools
 
 # The Rust tests of the proved library.
 board: emulator staticlib
-	cd second && $(BOARD_CARGO) test --release --quiet -p board -- --show-output
+	cd second && $(CARGO) test --release --quiet -p board -- --show-output
 
 # The calls with second's whole replies that crates/examples proves of the definitions.
 TOLD := crates/examples/proofs/Told.antt
@@ -68,7 +66,7 @@ edits:
 # The same comparisons over many more calls, longer deliveries and more journals.
 soak: emulator staticlib
 	cd second && $(CARGO) test --release --test deliveries -- --ignored --nocapture
-	cd second && SLIP_CALLS=$(SOAK_CALLS) $(BOARD_CARGO) test --release -p board -- --nocapture
+	cd second && SLIP_CALLS=$(SOAK_CALLS) $(CARGO) test --release -p board -- --nocapture
 
 # libFuzzer over open and put. The Rust side is instrumented (second, fast and what compares them); libboard.a is as rt writes it.
 # What fails is left in second/fuzz/found; what shall be played by `make test` from then on goes to second/fuzz/cases.
@@ -93,8 +91,8 @@ bench: staticlib
 	$(CARGO_TARGET_DIR)/measured/bench docs/BENCH.md
 else
 COUNT := $(CARGO_TARGET_DIR)/count.so
-bench: emulator staticlib
-	cd second && $(BOARD_CARGO) build --profile measured -p bench
+bench: cross staticlib
+	cd second && CARGO_BUILD_TARGET=$(X86) RUSTC=/usr/bin/rustc /usr/bin/$(CARGO) build --profile measured -p bench
 	gcc -O2 -Wall -Wextra -Werror -fPIC -shared second/bench/count.c -o $(COUNT)
 	SLIP_COUNTER="qemu-x86_64 -cpu max -plugin $(COUNT) -d plugin -D" $(RUNNER) $(CARGO_TARGET_DIR)/$(X86)/measured/bench docs/BENCH.md
 endif
@@ -115,10 +113,17 @@ tools:
 	$(call need,gcc,gcc)
 	@command -v rt > /dev/null || { echo 'rt, the command of the Rattle kit, is not on the PATH' >&2; exit 1; }
 
-# What builds and runs x86-64 programs on another machine; amd64 is Debian's word for x86-64.
+# $(call amd64,PACKAGES): they are there, or installed; amd64 is Debian's word for x86-64.
+amd64 = dpkg -s $(1) > /dev/null 2>&1 || { dpkg --add-architecture amd64 && $(INSTALL) --no-install-recommends $(1); }
+
+# What builds x86-64 programs in C on another machine, and runs them.
 emulator: tools
-	@test $(MACHINE) = x86_64 || dpkg -s $(EMULATOR) > /dev/null 2>&1 || \
-	  { dpkg --add-architecture amd64 && $(INSTALL) --no-install-recommends $(EMULATOR); }
+	@test $(MACHINE) = x86_64 || $(call amd64,$(EMULATOR))
+
+# What builds them in Rust besides, with Debian's cargo.
+CROSS := cargo-web rustc-web libstd-rust-web-dev:amd64
+cross: emulator
+	@$(call amd64,$(CROSS))
 
 # What instruments x86-64 code.
 native:

@@ -1,20 +1,6 @@
-//! The proved engine through the C interface of include/slipcoacher.h. A Rust slice is never null and lent slices do not
-//! overlap, which is all that the header asks of a caller.
+//! The calls where the processor is x86-64: the library is linked.
 
-use compare::Engine;
 use flat::{Input, Kiosk, Made, Page, Part, Reply};
-
-/// The archive that is linked.
-pub const LIBRARY: &str = env!("SLIP_LIBRARY");
-
-/// The proved engine, to be held against second.
-pub const BOARD: Engine = Engine {
-    name: "board",
-    create,
-    open,
-    put,
-    last,
-};
 
 extern "C" {
     fn slip_create(
