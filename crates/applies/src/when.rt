@@ -34,7 +34,7 @@ ghost use lib.Dec.{eqb, leb};
 ghost use lib.ListN.{length};
 ghost use Rattle.words.specs.Choice.{if_then_else_};
 ghost use Rattle.words.specs.Marks.{mark};
-ghost use Rattle.roll.specs.Weighing.{total-of};
+ghost use Rattle.roll.specs.Weighing.{most-kiosks, total-of};
 ghost use Rattle.rules.specs.State.{most-rounds, state-of, is-propose, is-prevote, spoken, good};
 ghost use Rattle.rules.specs.Log.{desk, table-length, told};
 ghost use Rattle.rules.specs.Rules.{is-rule, backed-sheet, applies-28, applies-44, applies-47, from-47, from-34, first-rule};
@@ -123,12 +123,12 @@ fn heeds_prevotes(stand: Stand, h: Heard) -> bool
 fn sheet_to_back(
     stand: Stand,
     h: Heard,
-    powers: &[u16; 32],
+    powers: &[u16; Roll::MOST],
     kiosks: usize,
     table: &[u64],
     total: Power,
 ) -> u64
-    requires { ⌜ (stand .round .0 < most-rounds) × (kiosks ≤ 32) × (length (now table) ≡ table-length) ⌝ }
+    requires { ⌜ (stand .round .0 < most-rounds) × (kiosks ≤ most-kiosks) × (length (now table) ≡ table-length) ⌝ }
     ensures { λ name. ⌜ Wherever stand h (now (powers .entry)) kiosks (total .0) (λ s. name ≡ (if s .progress .stand .backed then 0 else backed-sheet (desk s (now (table .entry))))) ⌝ }
 {
     if stand.backed {
@@ -154,12 +154,12 @@ fn sheet_to_back(
 fn applies_44(
     stand: Stand,
     h: Heard,
-    powers: &[u16; 32],
+    powers: &[u16; Roll::MOST],
     kiosks: usize,
     table: &[u64],
     total: Power,
 ) -> bool
-    requires { ⌜ (stand .round .0 < most-rounds) × (kiosks ≤ 32) × (length (now table) ≡ table-length) ⌝ }
+    requires { ⌜ (stand .round .0 < most-rounds) × (kiosks ≤ most-kiosks) × (length (now table) ≡ table-length) ⌝ }
     ensures { λ r. ⌜ Wherever stand h (now (powers .entry)) kiosks (total .0) (λ s. r ≡ applies-44 (desk s (now (table .entry)))) ⌝ }
 {
     let step = stand.step;
@@ -181,12 +181,12 @@ fn applies_44(
 fn prevote_rule(
     stand: Stand,
     h: Heard,
-    powers: &[u16; 32],
+    powers: &[u16; Roll::MOST],
     kiosks: usize,
     table: &[u64],
     total: Power,
 ) -> Rule
-    requires { ⌜ (stand .round .0 < most-rounds) × (kiosks ≤ 32) × (length (now table) ≡ table-length) ⌝ }
+    requires { ⌜ (stand .round .0 < most-rounds) × (kiosks ≤ most-kiosks) × (length (now table) ≡ table-length) ⌝ }
     ensures { λ r. ⌜ Wherever stand h (now (powers .entry)) kiosks (total .0) (λ s. let d = desk s (now (table .entry)) in from-34 d ≡ (if is-rule r then r else from-47 d)) ⌝ }
 {
     if !heeds_prevotes(stand, h) {
@@ -209,8 +209,14 @@ fn prevote_rule(
 }
 
 // Line 47.
-fn applies_47(stand: Stand, h: Heard, powers: &[u16; 32], kiosks: usize, total: Power) -> bool
-    requires { ⌜ kiosks ≤ 32 ⌝ }
+fn applies_47(
+    stand: Stand,
+    h: Heard,
+    powers: &[u16; Roll::MOST],
+    kiosks: usize,
+    total: Power,
+) -> bool
+    requires { ⌜ kiosks ≤ most-kiosks ⌝ }
     ensures { λ r. ⌜ Wherever stand h (now (powers .entry)) kiosks (total .0) (λ s. (t : List ℕ) → r ≡ applies-47 (desk s t)) ⌝ }
 {
     if stand.asked.precommit {
@@ -221,7 +227,7 @@ fn applies_47(stand: Stand, h: Heard, powers: &[u16; 32], kiosks: usize, total: 
 
 // The senders of any message of a round, each marked once: those of its votes, and of its proposal the seat whose turn it is.
 fn senders(h: Heard, turn: usize) -> u32
-    requires { ⌜ turn < 32 ⌝ }
+    requires { ⌜ turn < most-kiosks ⌝ }
     ensures { λ m. ⌜ m ≡ (if spoken h then mark (bitOr (h .prevotes) (h .precommits)) turn else bitOr (h .prevotes) (h .precommits)) ⌝ }
 {
     let votes = either(h.prevotes, h.precommits);

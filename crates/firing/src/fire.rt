@@ -31,6 +31,7 @@ ghost use mathlib.Core.Bool.{true};
 ghost use lib.ListN.{length, getD, set};
 ghost use Rattle.words.specs.Choice.{if_then_else_};
 ghost use Rattle.words.specs.Marks.{mark};
+ghost use Rattle.roll.specs.Weighing.{most-kiosks};
 ghost use Rattle.rules.specs.State.{most-rounds, log-length, state-of, proposal-at, valid-at};
 ghost use Rattle.rules.specs.Log.{message, hear-vote};
 ghost use Rattle.rules.specs.Rules.{fire};
@@ -79,7 +80,7 @@ fn note(trail: &mut Trail, table: &mut [u64], place: usize, name: u64)
 
 // A seat's vote in the marks at a place of the log.
 fn mark_vote(log: &mut Log, at: usize, seat: usize)
-    requires { ⌜ (at < log-length) × (seat < 32) ⌝ }
+    requires { ⌜ (at < log-length) × (seat < most-kiosks) ⌝ }
     ensures { λ _. ⌜ now (log .exit) ≡ set (now (log .entry)) at (mark (getD (now (log .entry)) at 0) seat) ⌝ }
 {
     let m = with_mark(log[at], seat);
@@ -114,7 +115,7 @@ fn hear_vote(
     log: &mut Log,
     table: &mut [u64],
 )
-    requires { ⌜ (r .0 < most-rounds) × (seat < 32) × Writable (now trail) (now table) ⌝ }
+    requires { ⌜ (r .0 < most-rounds) × (seat < most-kiosks) × Writable (now trail) (now table) ⌝ }
     ensures { λ _. ⌜ Puts (λ d. hear-vote v d (r .0) seat name) 1 (lent (now (log .entry)) (now (table .entry)) (now (trail .entry))) (lent (now (log .exit)) (now (table .exit)) (now (trail .exit))) ⌝ }
 {
     mark_vote(log, marks_place(v, r), seat);
@@ -123,7 +124,7 @@ fn hear_vote(
 
 // A message in the lent log and table; another output changes nothing.
 fn hear(o: Output, seat: usize, good: bool, trail: &mut Trail, log: &mut Log, table: &mut [u64])
-    requires { ⌜ (o .round .0 < most-rounds) × (seat < 32) × Writable (now trail) (now table) ⌝ }
+    requires { ⌜ (o .round .0 < most-rounds) × (seat < most-kiosks) × Writable (now trail) (now table) ⌝ }
     ensures { λ _. ⌜ Puts (message o seat good) 1 (lent (now (log .entry)) (now (table .entry)) (now (trail .entry))) (lent (now (log .exit)) (now (table .exit)) (now (trail .exit))) ⌝ }
 {
     let kind = o.kind;
@@ -145,7 +146,7 @@ fn hear(o: Output, seat: usize, good: bool, trail: &mut Trail, log: &mut Log, ta
 
 // An output in the own log, where it is a message.
 fn hear_own(says: bool, o: Output, seat: usize, trail: &mut Trail, log: &mut Log, table: &mut [u64])
-    requires { ⌜ (seat < 32) × ((says ≡ true → o .round .0 < most-rounds)) × ((says ≡ true → Writable (now trail) (now table))) × (length (now trail) ≡ trail-length) ⌝ }
+    requires { ⌜ (seat < most-kiosks) × ((says ≡ true → o .round .0 < most-rounds)) × ((says ≡ true → Writable (now trail) (now table))) × (length (now trail) ≡ trail-length) ⌝ }
     ensures { λ _. ⌜ Puts (own-message says seat o) (if says then 1 else 0) (lent (now (log .entry)) (now (table .entry)) (now (trail .entry))) (lent (now (log .exit)) (now (table .exit)) (now (trail .exit))) ⌝ }
 {
     if says {

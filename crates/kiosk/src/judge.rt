@@ -10,6 +10,7 @@ ghost use Prim.Native.Nat.{_≤_};
 ghost use mathlib.Core.Path.{_≡_};
 ghost use mathlib.Core.Bool.{true, _&&_};
 ghost use lib.Dec.{leb};
+ghost use Rattle.roll.specs.Weighing.{most-kiosks};
 ghost use Rattle.rules.specs.State.{state-of};
 ghost use Rattle.rules.specs.Log.{desk};
 ghost use Rattle.journal.specs.Layout.{header-length};
@@ -19,7 +20,7 @@ ghost use Rattle.kiosk.specs.contracts.Lent.{kiosk-of};
 
 // The used length and the last group's start, in an area of so many bytes, of a kiosk with this roll.
 fn used_fits(roll: Roll, course: Course, area: usize) -> bool
-    requires { ⌜ roll .kiosks ≤ 32 ⌝ }
+    requires { ⌜ roll .kiosks ≤ most-kiosks ⌝ }
     ensures { λ b. ⌜ b ≡ (leb (header-length roll) (course .used) && leb (course .used) area && leb (course .last) (course .used)) ⌝ }
 {
     (header_length(roll) <= course.used) & (course.used <= area) & (course.last <= course.used)

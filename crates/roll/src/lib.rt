@@ -14,7 +14,7 @@ pub struct PlusOne(pub u8);
 // The kiosks of a journal: the first `kiosks` of `powers` count. `own` is the seat of the kiosk whose journal it is.
 pub struct Roll {
     pub kiosks: usize,
-    pub powers: [u16; 32],
+    pub powers: [u16; Roll::MOST],
     pub own: usize,
     pub height: Height,
 }

@@ -43,7 +43,7 @@ fn counted(power: u16, counts: bool) -> u32
 
 // Of the seats marked, the marks of those whose cell, from `base` on, holds the name. No other cell is looked at.
 fn named(marks: u32, table: &[u64], base: usize, name: u64) -> u32
-    requires { ⌜ base + 32 ≤ length (now table) ⌝ }
+    requires { ⌜ base + most-kiosks ≤ length (now table) ⌝ }
     ensures { λ r. ⌜ ((i : ℕ) → marked r i ≡ names marks (now (table .entry)) base name i) ⌝ }
 {
     let mut found: u32 = 0;
@@ -59,8 +59,8 @@ fn named(marks: u32, table: &[u64], base: usize, name: u64) -> u32
 }
 
 // The power of the seats marked.
-pub fn weigh(powers: &[u16; 32], kiosks: usize, marks: u32) -> Power
-    requires { ⌜ kiosks ≤ 32 ⌝ }
+pub fn weigh(powers: &[u16; Roll::MOST], kiosks: usize, marks: u32) -> Power
+    requires { ⌜ kiosks ≤ most-kiosks ⌝ }
     ensures { λ r. ⌜ r .0 ≡ power-below (now (powers .entry)) (λ i. marked marks i) kiosks ⌝ }
 {
     if marks == 0 {
@@ -77,14 +77,14 @@ pub fn weigh(powers: &[u16; 32], kiosks: usize, marks: u32) -> Power
 
 // The power of the seats marked whose cell, from `base` on, holds the name.
 pub fn weigh_named(
-    powers: &[u16; 32],
+    powers: &[u16; Roll::MOST],
     kiosks: usize,
     marks: u32,
     table: &[u64],
     base: usize,
     name: u64,
 ) -> Power
-    requires { ⌜ (kiosks ≤ 32) × (base + 32 ≤ length (now table)) ⌝ }
+    requires { ⌜ (kiosks ≤ most-kiosks) × (base + most-kiosks ≤ length (now table)) ⌝ }
     ensures { λ r. ⌜ r .0 ≡ power-below (now (powers .entry)) (λ i. marked marks i && eqb (getD (now (table .entry)) (base + i) 0) name) kiosks ⌝ }
 {
     weigh(powers, kiosks, named(marks, table, base, name))
@@ -92,7 +92,7 @@ pub fn weigh_named(
 
 // Whether the seats marked whose cell holds the name are large. The names are read only where all the seats marked are.
 pub fn is_large_named(
-    powers: &[u16; 32],
+    powers: &[u16; Roll::MOST],
     kiosks: usize,
     marks: u32,
     table: &[u64],
@@ -100,7 +100,7 @@ pub fn is_large_named(
     name: u64,
     total: Power,
 ) -> bool
-    requires { ⌜ (kiosks ≤ 32) × (base + 32 ≤ length (now table)) ⌝ }
+    requires { ⌜ (kiosks ≤ most-kiosks) × (base + most-kiosks ≤ length (now table)) ⌝ }
     ensures { λ r. ⌜ r ≡ large (total .0) (power-below (now (powers .entry)) (λ i. marked marks i && eqb (getD (now (table .entry)) (base + i) 0) name) kiosks) ⌝ }
 {
     if !weigh(powers, kiosks, marks).is_large(total) {
@@ -119,7 +119,7 @@ impl Roll {
 
     // The power of all the kiosks.
     pub fn total(self) -> Power
-        requires { ⌜ self .kiosks ≤ 32 ⌝ }
+        requires { ⌜ self .kiosks ≤ most-kiosks ⌝ }
         ensures { λ r. ⌜ r .0 ≡ total-of self ⌝ }
     {
         weigh(&self.powers, self.kiosks, EVERY)
@@ -143,8 +143,8 @@ impl Roll {
         (self.height.0 as usize + r.0 as usize) % self.kiosks
     }
 
-    fn powers_fit(powers: &[u16; 32], kiosks: usize) -> bool
-        requires { ⌜ kiosks ≤ 32 ⌝ }
+    fn powers_fit(powers: &[u16; Roll::MOST], kiosks: usize) -> bool
+        requires { ⌜ kiosks ≤ most-kiosks ⌝ }
         ensures { λ r. ⌜ r ≡ all-below kiosks (λ i. leb (getD (now (powers .entry)) i 0) most-power) ⌝ }
     {
         let mut fit = true;
@@ -186,10 +186,10 @@ impl Roll {
 
     // The roll of some powers, one kiosk each.
     pub fn with_powers(powers: &[u16], own: usize, height: Height) -> Roll
-        requires { ⌜ length (now powers) ≤ 32 ⌝ }
+        requires { ⌜ length (now powers) ≤ most-kiosks ⌝ }
         ensures { λ r. ⌜ r ≡ roll-with (now (powers .entry)) own (height .0) ⌝ }
     {
-        let mut list = [0u16; 32];
+        let mut list = [0u16; Roll::MOST];
         let mut i: usize = 0;
         while i < powers.len() {
             list[i] = powers[i];

@@ -4,6 +4,7 @@ use Prim.Native.Nat.{ℕ, suc, _≤_, _<_}
 use mathlib.Core.Path.{_≡_}
 use mathlib.Core.List.{List}
 use lib.ListN.{length, take}
+use Rattle.roll.specs.Weighing.{most-kiosks}
 use Rattle.rules.specs.declared.State.{State}
 use Rattle.rules.specs.declared.Input.{Input}
 use Rattle.rules.specs.declared.Output.{Output}
@@ -14,7 +15,7 @@ use Rattle.rules.specs.Log.{Desk, table-length}
 -- what the rules rely on: refusal 1 has looked at each
 pub record Ready (s : State) (table : List ℕ) : Type 0 where
   pub some-kiosks : 1 ≤ s .roll .kiosks
-  pub few-kiosks : s .roll .kiosks ≤ 32
+  pub few-kiosks : s .roll .kiosks ≤ most-kiosks
   pub own : s .roll .own < s .roll .kiosks
   pub round : s .progress .stand .round .0 < most-rounds
   pub places : length table ≡ table-length
@@ -22,7 +23,7 @@ pub record Ready (s : State) (table : List ℕ) : Type 0 where
 -- what taking an input in relies on: refusal 5 and 11 have looked at each
 pub record Readable (i : Input) : Type 0 where
   pub kind : 1 ≤ i .kind
-  pub sender : i .sender < 32
+  pub sender : i .sender < most-kiosks
   pub round : i .round .0 < most-rounds
   pub next : 7 ≤ i .kind → suc (i .round .0) < most-rounds
 
