@@ -10,7 +10,7 @@ FUZZ_SECONDS ?= 60
 # Checks at a time: two to a core keep both cores busy while the last of a batch ends.
 export RT_JOBS ?= 4
 
-.PHONY: test rust board told mutants edits soak fuzz bench demo staticlib tools emulator cross native
+.PHONY: test rust board told mutants edits soak fuzz bench demo lib staticlib tools emulator cross native
 
 INSTALL := apt-get update && apt-get install -y
 # $(call need,COMMAND,PACKAGE)
@@ -42,7 +42,7 @@ rust: tools
 	cd second && $(CARGO) test --release --quiet
 
 # The Rust tests of the proved library.
-board: emulator staticlib
+board: lib
 	cd second && $(CARGO) test --release --quiet -p board -- --show-output
 
 # The calls with second's whole replies that crates/examples proves of the definitions.
@@ -102,6 +102,22 @@ demo: emulator
 	@rt check lister > target.log 2>&1 || { cat target.log; exit 1; }
 	@rm -f target.log
 	@$(RUNNER) target/bin/lister < demo/one-kiosk.journal
+
+# lib/: the proved library with its header, its pkg-config file and the examples, for firmware to take. Both ways to compile are tried: the
+# line that is printed at the end, and the flags that pkg-config says.
+LIB_CC := $(or $(CARGO_TARGET_X86_64_UNKNOWN_LINUX_GNU_LINKER),gcc) -std=c11
+lib_line = $(LIB_CC) lib/loop.c -Ilib -Llib -lboard -o $(1)
+VERSION = $(shell sed -n 's/^.define SLIP_VERSION "\(.*\)".*/\1/p' include/slipcoacher.h)
+lib: emulator staticlib
+	$(call need,pkg-config,pkgconf)
+	@mkdir -p lib $(CARGO_TARGET_DIR)
+	@cp target/staticlib/libboard.a include/slipcoacher.h include/example.c include/loop.c lib/
+	@sed 's/@VERSION@/$(VERSION)/' include/slipcoacher.pc.in > lib/slipcoacher.pc
+	@$(call lib_line,$(CARGO_TARGET_DIR)/loop)
+	@$(LIB_CC) lib/example.c $$(PKG_CONFIG_PATH=lib pkg-config --cflags --libs slipcoacher) -o $(CARGO_TARGET_DIR)/example
+	@$(RUNNER) $(CARGO_TARGET_DIR)/example > /dev/null
+	@echo "in lib/: $$(ls lib | xargs)"
+	@echo "to compile: $(call lib_line,loop)"
 
 # target/staticlib/libboard.a, proved by the same command; what board needs is proved first, side by side.
 staticlib: tools

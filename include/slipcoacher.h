@@ -1,18 +1,75 @@
 /*
- * Slipcoacher: the engine of one kiosk, one height, one journal, for firmware to link (libboard.a).
+ * Slipcoacher: the engine of one kiosk, one height, one journal, for firmware to link (libboard.a). 01 is the request that it keeps.
+ * example.c is the shortest program that uses it, loop.c the whole loop on a real file.
  *
- * Who owns what. The caller owns every byte. The library keeps nothing between calls: no heap, no static data, no thread, no clock.
+ * WHO OWNS WHAT. The caller owns every byte. The library keeps nothing between calls: no heap, no data that changes, no thread, no clock.
  * A lent area is a pointer and a length; the pointer is never null, not even with length 0, and areas do not overlap.
  *   journal  the bytes of the log partition. Creating writes its header, putting one group at the used length; opening only reads.
  *   table    SLIP_TABLE numbers beside the state. Opening fills it, putting changes it; keep it with the state.
  *   kiosk    the state. It goes in by value and comes back in the reply; the next call takes the one of the last reply.
  *
- * The order of write and send. When putting returns number 0, the group stands in the lent journal. Make those bytes durable (the part
- * that slip_last gives), and only then send the reply's outputs. A kiosk that sends first can forget its own vote in a power cut.
+ * THE CALLER'S DUTIES. Two kiosks that keep them never settle a height with different sheets (proved: one-sheet-sent), if such kiosks
+ * hold more than two thirds of the power. In brackets: markets, computed, in which two do, since that is not kept (Premises.antt).
+ *  1. Create the journal once, and again only after 13, where nothing but power cuts in writing it has touched the journal: with the same
+ *     roll and height, and the same own number. One journal a height. [two-journals, own-roll]
+ *  2. Open exactly the used bytes; after a power cut all the bytes that the cut left: as long as the file is, not a length that was
+ *     remembered. Go on with what opening gives, never from a fresh state. [old-bytes, afresh]
+ *  3. Cut the file at the used length of the reply (kiosk.used) before the next put. What stands behind it is the first part of a group
+ *     that was never whole; left there, it may be read as damage behind the next group, or in it. Make the file durable then, also where
+ *     nothing is cut: a program that was killed may have left a whole group that is not on the disk yet.
+ *  4. Put each input with the state, table and journal that opening or the last call left, unchanged. [stale]
+ *  5. When putting returns 0 the group stands in the lent journal (proved: accepted-written); slip_last says where. Make its bytes durable
+ *     in byte order, so that a power cut leaves the old used bytes and any first part of the group. [old-bytes]
+ *  6. Only then send the reply's outputs, now, later or again. Send nothing else under the own number for that height. [early]
+ *  7. Put under a sender's number only what this sender sent, for that height: signatures are checked before. [forged]
+ *  8. Set the offer of every input, timers too: a call may enter a round that is this kiosk's to propose in. 0 is no sheet: the kiosk then
+ *     asks for the propose timer. (No duty of one-sheet-sent: any offer is safe.)
  *
- * Refusals. Every number may be written into any field: a call never traps. A refused call returns its number, changes no byte and no
- * number that was lent, has no output, and returns the state that it was given. Opening differs: refused, it returns the unopened
- * state, and after 13 and 14 the table is all 0.
+ * WHEN THE DURABLE WRITE FAILS the state and the table of the reply are not used, and nothing of it is sent. Cut the file at the used length
+ * that the state had before the call, make that durable, and open again. Where the cut fails too, stop: nothing is known of the disk then,
+ * and the next start opens what is there. As long as the old used bytes stand, and behind them a first part of the group or nothing, it is
+ * as after a power cut in the write: the steps write-cut and wake of one-sheet-sent.
+ *
+ * AFTER 13 the header is not whole. Where nothing but power cuts in writing it has touched the journal nothing was ever sent (proved:
+ * opens-whole), and it is created again (1). AFTER 14 something else has touched it; 01 gives this kiosk no way on in that height: keep the
+ * bytes, send nothing, do not create again. Power cuts alone never lead to 14 (proved: opens-whole).
+ *
+ * ERASED FLASH. Opening reads every byte it is given. A byte 0xFF where a group may start is damage there: 14, and 14 at 0 where nothing is
+ * written yet. So erased bytes are left out; but a whole group can end in 0xFF too, in up to eight of them, the bytes of a name. No group
+ * starts with one. Let L be the place after the last byte that is not 0xFF, 0 where there is none.
+ *   Open with L. Refused, or with kiosk.used equal to L: this is the reply.
+ *   Else open with L + 1, .. L + 8, within the area: one whose kiosk.used is the length given is the reply.
+ *   If none is, open with L once more: this is the reply.
+ * It is the reply to all the bytes that the cut left, with those 0xFF of the same group that were still to be written, which stand there.
+ * Without the second step a whole group that was sent can be lost. 13 stays 13 where a whole header ends in 0xFF, those of its height: no
+ * group follows it then, and creating again writes the same bytes. (Tested at every cut: second/board/tests/erased.rs.)
+ * Flash cannot cut as a file does: where bytes stand behind kiosk.used, move the used bytes to erased flash before the next put, so that
+ * at each moment one whole copy is durable and is the one that is opened. A cell that a cut left half written is outside 01's power cuts.
+ *
+ * AFTER WAKING send the last group's outputs again, since the cut may have come before they were sent; and start each timer that is still
+ * waited for: of propose with asked_propose at step propose, of prevote with asked_prevote at step prevote, of precommit with
+ * asked_precommit. No promise needs this, but a kiosk that waits for a timer that nobody runs may wait for ever.
+ *
+ * REFUSALS. Every number may be written into any field: a call never traps. A refused call returns its number, changes no byte and no
+ * number that was lent, has no output, and returns the state that it was given (proved of putting: refused-changes-nothing). Opening
+ * differs: refused, it returns the unopened state, and after 13 and 14 the table is all 0.
+ * Refusal 5 is given for a kind that is not 1 to 7, a sender that is not on the roll, a round over 15, and for a field outside these rules:
+ *   start      sender, round, name, valid, verdict 0
+ *   timers     sender, name, valid, verdict 0
+ *   votes      valid, verdict 0; name 0 is nil
+ *   proposal   name not 0; valid 0 to its round; verdict 0 or 1
+ *
+ * THE JOURNAL'S BYTES, little-endian (Layout.antt):
+ *   header, SLIP_HEADER(n) bytes: n (1); n powers (2 each); 5 (1); own number (1); height (4)
+ *   then a group for each accepted call, SLIP_GROUP(k) bytes:
+ *     place  0  24             place  1  kind of the input    place  2  sender    place  3  round    place  4  valid round plus one
+ *     place  5  verdict        place  6  three zeros          place  9  name (8)  place 17  offer (8)
+ *     place 25  k, 0 to 6, and from place 26 on k outputs of 12: kind, round, valid round plus one, zero, name (8)
+ * Fields that an output does not carry are 0: 1, 2, 3 and 7 carry a name, only 1 a valid round.
+ *
+ * WHAT IT NEEDS. An x86-64 processor (the code uses the SSE2 registers) and the System V calling convention, with a stack aligned to 16
+ * bytes at each call and its red zone: no interrupt writes into the 128 bytes below the stack pointer. Two functions of C, memcpy and memset,
+ * and nothing else. Alignment: table and structs 8 bytes, powers 2, journal and text any. Stack: the SLIP_STACK numbers below.
  */
 #ifndef SLIPCOACHER_H
 #define SLIPCOACHER_H
@@ -24,12 +81,33 @@
 extern "C" {
 #endif
 
+#define SLIP_VERSION "1.0" /* of this interface: the first number changes where a program must */
+#define SLIP_RULES 1       /* of the rules and the journal's bytes: document 01 */
+
 #define SLIP_KIOSKS 32    /* the most kiosks of a roll */
 #define SLIP_ROUNDS 16    /* rounds 0 to 15 */
 #define SLIP_TABLE 1040   /* the numbers of the table */
-#define SLIP_SENT 6       /* the most outputs of a call */
-#define SLIP_ROOMY 28499  /* journal bytes for 32 kiosks in which no call, from opening on, is refused for room (proved: put-answers); also the most that is listed */
-#define SLIP_TEXT 114196  /* the text room that every listing fits */
+#define SLIP_SENT 6       /* the most outputs of a call (proved: accepted-six) */
+#define SLIP_TEXT 114196  /* the text room that every listing fits (proved: listing-fits) */
+
+/* Bytes of the journal, by n kiosks or k outputs; and the most of each. */
+#define SLIP_HEADER(n) (7 + 2 * (n))
+#define SLIP_GROUP(k) (26 + 12 * (k))
+#define SLIP_MOST_HEADER SLIP_HEADER(SLIP_KIOSKS) /* 71 */
+#define SLIP_MOST_GROUP SLIP_GROUP(SLIP_SENT)     /* 98 */
+
+/* An area in which no call of n kiosks is refused for room, with a state that opening, or accepted calls from there, gave (proved:
+ * put-answers); of a made-up state nothing is said. A smaller area may be lent too: then a call may be answered with 12. */
+#define SLIP_ROOMY_FOR(n) (1811 + 834 * (n))
+#define SLIP_ROOMY 28499 /* for 32 kiosks; also the most bytes that slip_list lists */
+
+/* Stack bytes that a call takes below its caller, its arguments by value among them: measured, with six rules fired in one call, and measured
+ * again by `make board`. A memcpy or memset that takes over 128 bytes comes on top. */
+#define SLIP_STACK_CREATE 512
+#define SLIP_STACK_OPEN 10064
+#define SLIP_STACK_PUT 9120
+#define SLIP_STACK_LAST 512
+#define SLIP_STACK_LIST 17680
 
 /* What a call answers. */
 enum slip_number {

@@ -1,4 +1,5 @@
 /* The stack that a call needs: below the caller a thread's stack is painted, and read back after the call. */
+#define _XOPEN_SOURCE 700
 #include <pthread.h>
 #include <stdint.h>
 #include <stdlib.h>

@@ -1,5 +1,5 @@
-//! The proved engine through the C interface of include/slipcoacher.h. A Rust slice is never null and lent slices do not
-//! overlap, which is all that the header asks of a caller.
+//! The proved engine through the C interface of include/slipcoacher.h. A Rust slice is aligned and never null, and lent slices do not
+//! overlap, which is all that a call asks of what is lent.
 
 #[cfg(target_arch = "x86_64")]
 mod linked;

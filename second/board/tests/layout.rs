@@ -1,9 +1,9 @@
 //! The library sees each field where this side's structs have it; from C the same, and the example runs.
 
-use board::{input_number, kiosk_number, layout, LIBRARY};
+mod common;
+use board::{input_number, kiosk_number, layout};
+use common::c;
 use flat::{Input, Kiosk, Output, Reply, KIOSKS, ROUNDS};
-use std::path::Path;
-use std::process::Command;
 
 /// A different number in every field, high bits set where the field is wide.
 fn kiosk() -> Kiosk {
@@ -143,41 +143,10 @@ fn fields_of_a_reply() {
     }
 }
 
-/// The LINKER or the RUNNER that cargo takes for x86-64 programs, where the environment names one.
-fn named(word: &str) -> Option<String> {
-    std::env::var(format!("CARGO_TARGET_X86_64_UNKNOWN_LINUX_GNU_{word}")).ok()
-}
-
-/// What a C file of this folder prints, built against the header and the library.
-fn run_c(name: &str) -> String {
-    let gcc = named("LINKER").unwrap_or("gcc".into());
-    let runner = named("RUNNER").unwrap_or_default();
-    let here = Path::new(env!("CARGO_MANIFEST_DIR"));
-    let program = Path::new(env!("CARGO_TARGET_TMPDIR")).join(name);
-    let built = Command::new(&gcc)
-        .args(["-std=c99", "-Wall", "-Wextra", "-Werror", "-O1", "-I"])
-        .arg(here.join("../../include"))
-        .arg(here.join(name).with_extension("c"))
-        .arg(LIBRARY)
-        .arg("-o")
-        .arg(&program)
-        .status()
-        .expect("gcc");
-    assert!(built.success(), "{gcc} on {name}.c");
-    // env starts the runner on the program, or else the program.
-    let output = Command::new("env")
-        .args(runner.split_whitespace())
-        .arg(&program)
-        .output()
-        .expect("the program");
-    assert!(output.status.success(), "{name}: {output:?}");
-    String::from_utf8(output.stdout).expect("text")
-}
-
 #[test]
 fn layout_from_c() {
     assert_eq!(
-        run_c("layout"),
+        c::run(&["second/board/layout.c"]),
         "153 numbers, all where the library has them\n"
     );
 }
@@ -189,5 +158,5 @@ fn example_in_c() {
                  start: number 0, 1 outputs\n  kind 4 round 0 name 0\n\
                  prevote: number 0, 0 outputs\n\
                  last group: 26 bytes at 53\n";
-    assert_eq!(run_c("example"), right);
+    assert_eq!(c::run(&["include/example.c"]), right);
 }

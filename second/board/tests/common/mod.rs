@@ -3,6 +3,8 @@
 // Each test program uses its own part of this.
 #![allow(dead_code)]
 
+pub mod c;
+
 use board::BOARD;
 use compare::{Delivery, Lent, Met, Sides, AIMS, FAST};
 
