@@ -1,0 +1,3 @@
+-- What the contracts of inner code are written in; no promise speaks of it.
+pub mod Digits
+pub mod Fields
