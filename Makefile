@@ -10,7 +10,7 @@ FUZZ_SECONDS ?= 60
 # Checks at a time: two to a core keep both cores busy while the last of a batch ends.
 export RT_JOBS ?= 4
 
-.PHONY: test rust board told mutants edits soak fuzz bench demo lib staticlib tools emulator cross native
+.PHONY: test rust board told mutants edits soak fuzz bench demo node lib staticlib tools emulator cross native
 
 INSTALL := apt-get update && apt-get install -y
 # $(call need,COMMAND,PACKAGE)
@@ -37,8 +37,9 @@ test: emulator
 	+@tools/in-memory $(MAKE) --no-print-directory --output-sync=target -j2 board rust || { echo 'the library or the Rust tests FAILED'; exit 1; }
 	@tail -n 1 .gate/ci.log | grep -xE '[0-9]+ passed, 0 failed'
 
-# The Rust tests that need no proved library.
+# The Rust tests that need no proved library; those of node need target/bin/node, which rt ci or `make node` builds.
 rust: tools
+	$(call need,strace,strace)
 	cd second && $(CARGO) test --release --quiet
 
 # The Rust tests of the proved library.
@@ -102,6 +103,12 @@ demo: emulator
 	@rt check lister > target.log 2>&1 || { cat target.log; exit 1; }
 	@rm -f target.log
 	@$(RUNNER) target/bin/lister < demo/one-kiosk.journal
+
+# The node program, proved and built as target/bin/node; bin/node starts it. Some minutes from nothing, and seconds after that.
+node: emulator
+	@rt check node > target.log 2>&1 || { cat target.log; exit 1; }
+	@rm -f target.log
+	@bin/node --help
 
 # lib/: the proved library with its header, its pkg-config file and the examples, for firmware to take. Both ways to compile are tried: the
 # line that is printed at the end, and the flags that pkg-config says.

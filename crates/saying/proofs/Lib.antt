@@ -1,0 +1,2 @@
+-- Laws of what is said.
+pub mod Rooms

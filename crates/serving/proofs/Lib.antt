@@ -1,0 +1,3 @@
+-- Laws of a call on a file.
+pub mod Sending
+pub mod Said
