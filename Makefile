@@ -7,10 +7,13 @@ CARGO := cargo --offline
 SOAK_CALLS ?= 10000000
 FUZZ_SECONDS ?= 60
 
+# Heights that `make market` plays.
+MARKET_HEIGHTS ?= 2000
+
 # Checks at a time: two to a core keep both cores busy while the last of a batch ends.
 export RT_JOBS ?= 4
 
-.PHONY: test rust board told mutants edits soak fuzz bench demo node lib staticlib tools emulator cross native
+.PHONY: test installed rust board try-market told mutants edits soak fuzz bench demo market story stories picture node fresh-node simulator browser lib staticlib tools emulator cross native
 
 INSTALL := apt-get update && apt-get install -y
 # $(call need,COMMAND,PACKAGE)
@@ -30,12 +33,18 @@ endif
 
 # The proofs, the must-fail edits and the programs; then the library that firmware links, from the stamps that rt ci leaves, and the Rust tests.
 # The verdict, rt ci's last line, is said again at the very end, and only if all passed. It is kept outside target/, which rt ci removes.
-test: emulator
+test: emulator installed
 	@mkdir -p .gate
 	@set -o pipefail; tools/in-memory rt ci 2>&1 | tee .gate/ci.log || { echo 'rt ci FAILED'; exit 1; }
-	@echo 'rt ci passed; the library and the Rust tests follow'
-	+@tools/in-memory $(MAKE) --no-print-directory --output-sync=target -j2 board rust || { echo 'the library or the Rust tests FAILED'; exit 1; }
+	@echo 'rt ci passed; the library, the Rust tests and the market follow'
+	+@tools/in-memory $(MAKE) --no-print-directory --output-sync=target -j2 board rust try-market || { echo 'the library, the Rust tests or the market FAILED'; exit 1; }
 	@tail -n 1 .gate/ci.log | grep -xE '[0-9]+ passed, 0 failed'
+
+# Installed one after the other, since what follows runs side by side.
+installed:
+	$(call need,pkg-config,pkgconf)
+	$(call need,strace,strace)
+	$(call need,chromium,chromium)
 
 # The Rust tests that need no proved library; those of node need target/bin/node, which rt ci or `make node` builds.
 rust: tools
@@ -45,6 +54,11 @@ rust: tools
 # The Rust tests of the proved library.
 board: lib
 	cd second && $(CARGO) test --release --quiet -p board -- --show-output
+
+# The market's tests: stories, small heights and the page in a browser, over the node that rt ci left. Some of them play at a time.
+try-market: emulator browser
+	@test -x target/bin/node || { echo 'there is no target/bin/node: make node' >&2; exit 1; }
+	cd second && $(CARGO) test --release --quiet -p market -- --test-threads=2
 
 # The calls with second's whole replies that crates/examples proves of the definitions.
 TOLD := crates/examples/proofs/Told.antt
@@ -98,11 +112,48 @@ bench: cross staticlib
 	SLIP_COUNTER="qemu-x86_64 -cpu max -plugin $(COUNT) -d plugin -D" $(RUNNER) $(CARGO_TARGET_DIR)/$(X86)/measured/bench docs/BENCH.md
 endif
 
-# A journal in 01's layout, of 107 bytes, listed by the proved lister.
-demo: emulator
-	@rt check lister > target.log 2>&1 || { cat target.log; exit 1; }
-	@rm -f target.log
-	@$(RUNNER) target/bin/lister < demo/one-kiosk.journal
+# How the market starts a node.
+export SLIP_NODE ?= $(strip $(RUNNER) $(CURDIR)/target/bin/node)
+MARKET := $(CARGO_TARGET_DIR)/release/market
+DEMO := target/demo
+
+# Four kiosks through one height, with a power cut and a lossy radio: what happened, and a page of it. The journals stay.
+demo: emulator fresh-node simulator
+	@mkdir -p $(DEMO)
+	@$(MARKET) --story demo --folder $(DEMO) --page $(DEMO)/demo.html
+	@for journal in $(DEMO)/*/kiosk-2.journal; do echo "journals: $${journal%/*}; bin/node list $$journal lists one"; done
+
+# Seeded heights; prints what was counted.
+market: emulator fresh-node simulator
+	@time tools/in-memory $(MARKET) --heights $(MARKET_HEIGHTS) --workers 2
+
+# One story told and drawn: NAME=power-cut, or the height of SEED=7; ARGS has further options.
+NAME ?= plain
+story: emulator fresh-node simulator
+	@mkdir -p $(DEMO)
+	@$(MARKET) $(if $(SEED),--seed $(SEED),--story $(NAME)) $(ARGS) --page $(DEMO)/$(if $(SEED),seed-$(SEED),$(NAME)).html
+
+# The transcripts that the tests compare, written anew.
+stories: emulator fresh-node simulator
+	$(MARKET) --write-stories second/market/stories
+
+# The picture in README.
+picture: demo browser
+	chromium --headless --no-sandbox --hide-scrollbars --window-size=1400,860 --screenshot=docs/height.png file://$(CURDIR)/$(DEMO)/demo.html
+
+# The node program, proved again only where a crate is newer.
+fresh-node:
+	@if test -x target/bin/node && test -z "$$(find crates crates.txt -type f -newer target/bin/node -print -quit)"; then exit 0; fi; \
+	  echo 'proving the node program and all that it stands on'; begun=$$SECONDS; \
+	  mkdir -p .gate; $(MAKE) --no-print-directory node > .gate/node.log 2>&1 & made=$$!; \
+	  while sleep 1; kill -0 $$made 2> /dev/null; do test $$(((SECONDS - begun) % 10)) -ne 0 || echo "  $$((SECONDS - begun)) s"; done; \
+	  wait $$made || { cat .gate/node.log; exit 1; }; touch target/bin/node; echo "proved and built in $$((SECONDS - begun)) s"
+
+simulator: tools
+	@cd second && $(CARGO) build --release --quiet -p market
+
+browser:
+	$(call need,chromium,chromium)
 
 # The node program, proved and built as target/bin/node; bin/node starts it. Some minutes from nothing, and seconds after that.
 node: emulator
