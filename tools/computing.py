@@ -278,7 +278,7 @@ class Cases:
 
     # a reply as the promises say it of an answer, outputs and a state
     def replied(self, o, *lent):
-        sent = self.of("rules/specs/Ready", "packed")(o.get("sent", ()))
+        sent = self.of("rules/specs/Sent", "packed")(o.get("sent", ()))
         return ({"answer": o["answer"], "sent": sent, "kiosk": o["kiosk"]}, *(o[name] for name in lent))
 
     def opening(self, c):

@@ -201,10 +201,10 @@ def limits():
 
 # what a crate's code declares, with no code: its uses, its structs and enums and its names for arrays, with each limit as its number
 def declarations(crate):
-    code, known = (CRATES / crate / "src" / "lib.rt").read_text(), limits()
+    known = limits()
+    code = re.sub(r"; (\w+::\w+)\]", lambda m: f"; {known.get(m[1], m[1])}]", (CRATES / crate / "src" / "lib.rt").read_text())
     types = [m.group() for m in sorted([*DECLARED.finditer(code), *NAMED.finditer(code)], key=lambda m: m.start())]
-    text = "\n".join(re.findall(r"^use [^\n]*", code, re.M) + types) + "\n"
-    return re.sub(r"; (\w+::\w+)\]", lambda m: f"; {known[m[1]]}]", text)
+    return "\n".join(re.findall(r"^use [^\n]*", code, re.M) + types) + "\n"
 
 
 # All definitions. Structs, plain records and enums go by `crate.Name`: `fields` has each field's type as antt sees it, `widths` those
