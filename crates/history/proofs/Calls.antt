@@ -23,7 +23,7 @@ use Rattle.rules.specs.Sent.{packed}
 use Rattle.rules.specs.Work.{work}
 use Rattle.rules.proofs.Same.{work-roll}
 use Rattle.journal.specs.Layout.{header-length, group-bytes, group-length}
-use Rattle.journal.specs.Readback.{count-of}
+use Rattle.journal.specs.Readback.{outputs-of}
 use Rattle.journal.proofs.Roundtrip.{length-group}
 use Rattle.refusals.specs.declared.Answer.{Answer}
 use Rattle.refusals.specs.declared.Answer.the-variants.{Accepted, Impossible, NoRoom}
@@ -36,7 +36,7 @@ use Rattle.kiosk.specs.Judged.{used-fits, judged}
 use Rattle.kiosk.specs.Calls.{Called, put, last-group}
 use Rattle.kiosk.specs.Promises.{Says}
 use Rattle.kiosk.proofs.Accepted.{accepted-used}
-use Rattle.history.specs.Histories.{Call, Past, after, Wide, Wide-names, outputs-from, call-of}
+use Rattle.history.specs.Histories.{Call, Past, after, Wide, Wide-names, call-of}
 use Rattle.history.specs.Remembering.{Writes}
 use Rattle.history.proofs.Images.{length-overwrite, take-overwrite, drop-overwrite}
 use Rattle.history.proofs.Finding.{taken-height}
@@ -179,5 +179,5 @@ module _ (i : Input) (k : Kiosk) (t j : List ℕ) {r : Reply} {t′ j′ : List 
         call-back (k .state .roll .height) (record { input = i; sent = os })
         (record { wide = w; height-is = taken-height p i (puts .taken); names = wide-after p i (puts .taken) w names .1 })
 
-    pub outputs-said : let os = work i (k .state) t .sent in let g = group-bytes i os in outputs-from 0 (count-of g) g ≡ os
+    pub outputs-said : let os = work i (k .state) t .sent in let g = group-bytes i os in outputs-of g ≡ os
     outputs-said = ap (λ (c : Call). c .sent) group-says

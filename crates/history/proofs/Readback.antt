@@ -18,12 +18,12 @@ use Rattle.rules.specs.declared.Output.{Output}
 use Rattle.rules.specs.declared.State.{State}
 use Rattle.rules.specs.Log.{desk, table-length}
 use Rattle.journal.specs.Layout.{header-bytes, header-length, head-bytes, reply-bytes, output-bytes, group-bytes, group-length}
-use Rattle.journal.specs.Readback.{input-of, output-of, count-of, length-of, groups-of}
+use Rattle.journal.specs.Readback.{input-of, output-of, count-of, length-of, groups-of, outputs-from}
 use Rattle.journal.proofs.Roundtrip.{input-back, length-group}
 use Rattle.kiosk.specs.Calls.{after-group, last-group}
 use Rattle.kiosk.proofs.Accepted.{accepted-passes}
 use Rattle.history.specs.Histories.{Call, call-bytes, Past, does, after, takes, Wide, Wide-names, Told, told-none, told-more, beginning, History, written}
-use Rattle.history.specs.Histories.{outputs-from, call-of, calls-in, records}
+use Rattle.history.specs.Histories.{call-of, calls-in, records}
 use Rattle.history.specs.Remembering.{Steady}
 use Rattle.journal.proofs.Headers.{run-after}
 use Rattle.history.proofs.Finding.{taken-height}

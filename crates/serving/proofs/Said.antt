@@ -7,8 +7,8 @@ use lib.ListN.{length}
 use Rattle.words.specs.Bytes.{in-order}
 use Rattle.words.proofs.ByteLaws.{in-order-append}
 use Rattle.rules.specs.declared.Output.{Output}
-use Rattle.journal.specs.Readback.{output-of, count-of}
-use Rattle.history.specs.Histories.{Call, call-bytes, outputs-from}
+use Rattle.journal.specs.Readback.{output-of, count-of, outputs-from}
+use Rattle.history.specs.Histories.{Call, call-bytes}
 use Rattle.history.proofs.Readback.{Plain, call-back}
 use Rattle.listing.specs.Listing.{out-line, out-lines}
 use Rattle.saying.specs.Saying.{accepted-line, said}
