@@ -6,6 +6,7 @@
  * A lent area is a pointer and a length; the pointer is never null, not even with length 0, and areas do not overlap.
  *   journal  the bytes of the log partition. Creating writes its header, putting one group at the used length; opening only reads.
  *   table    SLIP_TABLE numbers beside the state. Opening fills it, putting changes it; keep it with the state.
+ *   said     SLIP_AGAIN bytes, for what slip_again lays there.
  *   kiosk    the state. It goes in by value and comes back in the reply; the next call takes the one of the last reply.
  *
  * THE CALLER'S DUTIES. Two kiosks that keep them never settle a height with different sheets (proved: one-sheet-sent), if such kiosks
@@ -46,13 +47,20 @@
  * Flash cannot cut as a file does: where bytes stand behind kiosk.used, move the used bytes to erased flash before the next put, so that
  * at each moment one whole copy is durable and is the one that is opened. A cell that a cut left half written is outside 01's power cuts.
  *
- * AFTER WAKING send the last group's outputs again, since the cut may have come before they were sent; and start each timer that is still
- * waited for: of propose with asked_propose at step propose, of prevote with asked_prevote at step prevote, of precommit with
- * asked_precommit. No promise needs this, but a kiosk that waits for a timer that nobody runs may wait for ever.
+ * AFTER WAKING open by slip_again, do duty 3, and only then say it again: what is read may be a whole group that a killed program left, and
+ * that is not on the disk yet. slip_again opens as slip_open does and lays two lists at the start of `said`, each a count k (1 byte) and k
+ * outputs as groups have them: SLIP_LIST(k) bytes. It votes nothing and does not touch the journal.
+ *   first    the proposals, prevotes and precommits of the whole groups that are of the current round or the one before, in their order.
+ *            Send them: the cut may have come before they were sent. A kiosk that heard one already refuses it with 8.
+ *   second   behind it, the timers that are open, by kind, as outputs 4 to 6 of the current round: those whose input would be accepted now.
+ *            Start them.
+ * A settled kiosk has no open timer; that it settled, and what, is the last output of its last group. No promise needs any of this, but
+ * what nobody hears settles nothing, and a kiosk that waits for a timer that nobody runs may wait for ever.
  *
  * REFUSALS. Every number may be written into any field: a call never traps. A refused call returns its number, changes no byte and no
  * number that was lent, has no output, and returns the state that it was given (proved of putting: refused-changes-nothing). Opening
- * differs: refused, it returns the unopened state, and after 13 and 14 the table is all 0.
+ * differs: refused, it returns the unopened state, and after 13 and 14 the table is all 0. So does slip_again; its 12, for lists that do not
+ * fit, returns the opened state, with the table as opening left it. After each of its refusals `said` is unchanged.
  * Refusal 5 is given for a kind that is not 1 to 7, a sender that is not on the roll, a round over 15, and for a field outside these rules:
  *   start      sender, round, name, valid, verdict 0
  *   timers     sender, name, valid, verdict 0
@@ -69,7 +77,7 @@
  *
  * WHAT IT NEEDS. An x86-64 processor (the code uses the SSE2 registers) and the System V calling convention, with a stack aligned to 16
  * bytes at each call and its red zone: no interrupt writes into the 128 bytes below the stack pointer. Two functions of C, memcpy and memset,
- * and nothing else. Alignment: table and structs 8 bytes, powers 2, journal and text any. Stack: the SLIP_STACK numbers below.
+ * and nothing else. Alignment: table and structs 8 bytes, powers 2, journal, said and text any. Stack: the SLIP_STACK numbers below.
  */
 #ifndef SLIPCOACHER_H
 #define SLIPCOACHER_H
@@ -81,7 +89,7 @@
 extern "C" {
 #endif
 
-#define SLIP_VERSION "1.0" /* of this interface: the first number changes where a program must */
+#define SLIP_VERSION "1.1" /* of this interface: the first number changes where a program must */
 #define SLIP_RULES 1       /* of the rules and the journal's bytes: document 01 */
 
 #define SLIP_KIOSKS 32    /* the most kiosks of a roll */
@@ -89,10 +97,12 @@ extern "C" {
 #define SLIP_TABLE 1040   /* the numbers of the table */
 #define SLIP_SENT 6       /* the most outputs of a call (proved: accepted-six) */
 #define SLIP_TEXT 114196  /* the text room that every listing fits (proved: listing-fits) */
+#define SLIP_AGAIN 98     /* the room for what is said again that always does (proved: room-enough) */
 
-/* Bytes of the journal, by n kiosks or k outputs; and the most of each. */
+/* Bytes of the journal, by n kiosks or k outputs, and of a list of k outputs; and the most of each. */
 #define SLIP_HEADER(n) (7 + 2 * (n))
 #define SLIP_GROUP(k) (26 + 12 * (k))
+#define SLIP_LIST(k) (1 + 12 * (k))
 #define SLIP_MOST_HEADER SLIP_HEADER(SLIP_KIOSKS) /* 71 */
 #define SLIP_MOST_GROUP SLIP_GROUP(SLIP_SENT)     /* 98 */
 
@@ -105,6 +115,7 @@ extern "C" {
  * again by `make board`. A memcpy or memset that takes over 128 bytes comes on top. */
 #define SLIP_STACK_CREATE 512
 #define SLIP_STACK_OPEN 10064
+#define SLIP_STACK_AGAIN 11296
 #define SLIP_STACK_PUT 9120
 #define SLIP_STACK_LAST 512
 #define SLIP_STACK_LIST 17680
@@ -123,7 +134,7 @@ enum slip_number {
     SLIP_HEARD_OTHER = 9,
     SLIP_TIMER_NOT_DUE = 10,
     SLIP_LAST_ROUND = 11,
-    SLIP_NO_ROOM = 12,         /* the group, header or text does not fit */
+    SLIP_NO_ROOM = 12,         /* the group, header, text or lists do not fit */
     SLIP_HEADER_SHORT = 13,
     SLIP_DAMAGED = 14,         /* the reply's place says where */
     SLIP_BAD_ROLL = 15
@@ -221,6 +232,9 @@ struct slip_made slip_create(const uint16_t *powers, size_t kiosks, size_t own, 
 /* The kiosk whose journal the first `used` bytes of the area are. An unfinished group at the end is dropped: the reply's kiosk.used
  * stops before it. After 13 and 14 the table is all 0, after 1 it is untouched. */
 struct slip_reply slip_open(const uint8_t *journal, size_t area, size_t used, uint64_t *table, size_t places);
+
+/* As slip_open, with what is to be said again at the start of `said`, where other bytes stay: the two lists of AFTER WAKING. */
+struct slip_reply slip_again(const uint8_t *journal, size_t area, size_t used, uint64_t *table, size_t places, uint8_t *said, size_t room);
 
 /* One input. */
 struct slip_reply slip_put(struct slip_kiosk kiosk, struct slip_input input, uint64_t *table, size_t places, uint8_t *journal, size_t area);

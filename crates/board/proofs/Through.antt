@@ -1,6 +1,6 @@
 -- The board's calls are the kiosk's, through the flat twins. Assumes nothing.
 use Prim.Native.Nat.{ℕ, _-_}
-use mathlib.Core.Path.{_≡_, refl, ap, sym, _∙_}
+use mathlib.Core.Path.{_≡_, refl, sym}
 use mathlib.Core.List.{List, []}
 use mathlib.Core.Bool.{Bool, true, false, _&&_}
 use lib.ListN.{length, take, drop}
@@ -18,6 +18,8 @@ use Rattle.refusals.specs.Answers.{number-of}
 use Rattle.kiosk.specs.Calls.{create, put, last-group}
 use Rattle.kiosk.specs.Opening.{open-journal}
 use Rattle.kiosk.specs.Promises as Kiosk
+use Rattle.again.specs.Again.{say-again}
+use Rattle.again.specs.Again as again
 use Rattle.listing.specs.declared.Page.{Page}
 use Rattle.listing.specs.Listing.{printed, Prints}
 use Rattle.flat.specs.declared.FlatKiosk.{FlatKiosk}
@@ -27,7 +29,7 @@ use Rattle.twins.specs.Twins.{holds, kiosk-of, input-of, flat-reply, impossible
 use Rattle.twins.specs.contracts.Parts.{course-of}
 use Rattle.flat.specs.declared.FlatMade.{FlatMade}
 use Rattle.flat.specs.declared.FlatPage.{FlatPage}
-use Rattle.board.specs.Board.{replied, board-create, board-open, board-put, last-part, board-list, Creates, Opens, Says, Lists}
+use Rattle.board.specs.Board.{board-create, board-open, board-again, board-put, last-part, board-list, Creates, Opens, Says-again, Says, Lists}
 
 pub creates : (powers : List ℕ) (own height : ℕ) (journal after : List ℕ) (m : Made) (f : FlatMade)
     → Kiosk.Makes (create powers own height journal) m after → f .number ≡ number-of (m .answer) → f .used ≡ m .used
@@ -41,6 +43,12 @@ pub opens : (journal : List ℕ) (used : ℕ) (table after : List ℕ) (r : Repl
 unfolding board-open
 opens journal used table after r x s e =
     record { reply = rw (e, s .answer, s .sent, s .kiosk); table-is = s .table-is }
+
+pub says-again : (journal : List ℕ) (used : ℕ) (table said after end : List ℕ) (r : Reply) (x : FlatReply)
+    → again.Says-again (say-again journal used table said) r after end → x ≡ flat-reply r → Says-again (board-again journal used table said) x after end
+unfolding board-again
+says-again journal used table said after end r x s e =
+    record { reply = rw (e, s .answer, s .sent, s .kiosk); table-is = s .table-is; said-is = s .area-is }
 
 -- the log is lent as the twin has it, beside the roll, the course and the input that are made of twins
 pub says : (i : FlatInput) (f : FlatKiosk) (table journal table′ journal′ : List ℕ) (j : Input) (roll : Roll) (course : Course) (r : Reply) (x : FlatReply)

@@ -1,4 +1,5 @@
 // The calls.
+use again::say_again;
 use flat::FlatInput;
 use flat::FlatKiosk;
 use flat::FlatMade;
@@ -20,7 +21,7 @@ use twins::state::holds;
 use twins::state::roll_of;
 ghost use mathlib.Core.Path.{_≡_};
 ghost use lib.ListN.{length};
-ghost use Rattle.board.specs.Board.{board-create, board-open, board-put, last-part, board-list, Creates, Opens, Says, Lists};
+ghost use Rattle.board.specs.Board.{board-create, board-open, board-again, board-put, last-part, board-list, Creates, Opens, Says-again, Says, Lists};
 
 // A journal with this roll, own seat and height, in the lent area.
 #[no_mangle]
@@ -46,6 +47,19 @@ pub extern "C" fn slip_open(journal: &[u8], used: usize, table: &mut [u64]) -> F
     ensures { λ r. ⌜ Opens (board-open (now (journal .entry)) used (now (table .entry))) r (now (table .exit)) ⌝ }
 {
     flat_reply(open(journal, used, table))
+}
+
+// The same, and at the start of the area `said` the messages to send again and the timers to ask for again.
+#[no_mangle]
+pub extern "C" fn slip_again(
+    journal: &[u8],
+    used: usize,
+    table: &mut [u64],
+    said: &mut [u8],
+) -> FlatReply
+    ensures { λ r. ⌜ Says-again (board-again (now (journal .entry)) used (now (table .entry)) (now (said .entry))) r (now (table .exit)) (now (said .exit)) ⌝ }
+{
+    flat_reply(say_again(journal, used, table, said))
 }
 
 // One input.

@@ -1,18 +1,20 @@
--- The board's functions by which a C caller sees where its fields are, on twins with a different number in every field; and the page of a
--- listing. Assumes nothing.
+-- The board's functions by which a C caller sees where its fields are, on twins with a different number in every field; the page of a
+-- listing; and what is said again in a lent area. Assumes nothing.
 use Prim.Native.Nat.{ℕ}
 use mathlib.Core.Path.{_≡_}
 use mathlib.Core.List.{List, [], _∷_, _++_}
 use lib.ListN.{replicate}
+use Rattle.rules.proofs.Whole.{table, roll, held, log}
+use Rattle.journal.proofs.Journals.{header, starts}
 use Rattle.flat.specs.declared.FlatKiosk.{FlatKiosk}
 use Rattle.flat.specs.declared.FlatInput.{FlatInput}
 use Rattle.flat.specs.declared.FlatReply.{FlatReply}
 use Rattle.listing.proofs.Texts.{refused-13}
 use Rattle.flat.specs.declared.FlatPage.{FlatPage}
-use Rattle.board.specs.Board.{Lists, board-list}
+use Rattle.board.specs.Board.{Lists, board-list, Says-again, board-again}
 use Rattle.flat.specs.Fields.{kiosk-number, input-number, layout}
 use Rattle.examples.specs.Cases.{All}
-use Rattle.examples.specs.Flat.{out}
+use Rattle.examples.specs.Flat.{out, kiosk, reply}
 
 abbrev pub numbered : FlatKiosk
 numbered = record {
@@ -176,8 +178,37 @@ pages =
     record { journal = []; text = 7 ∷ []; page = record { number = 12; size = 0 }; text-after = 7 ∷ [] } ∷
     []
 
+-- a journal, its used length, the table and the area before, the reply, the table and the area after
+pub record Said : Type 0 where
+  pub journal : List ℕ
+  pub used : ℕ
+  pub table : List ℕ
+  pub area : List ℕ
+  pub reply : FlatReply
+  pub table-after : List ℕ
+  pub area-after : List ℕ
+
+-- four kiosks, started, and a byte after it; the propose timer is asked for again where the area has 14 bytes
+abbrev pub says : List ℕ → ℕ → List ℕ → Said
+says area number area-after = record {
+  journal = header ++ starts ++ (24 ∷ []);
+  used = 53;
+  table = replicate 1040 7;
+  area = area;
+  reply = reply number 0 [] (kiosk (roll 4 (1 ∷ 1 ∷ 1 ∷ 1 ∷ []) 0 1) 1 0 0 0 1 0 0 0 (held 0 0) (held 0 0) (log [] [] [] []) 53 15);
+  table-after = table [];
+  area-after = area-after;
+}
+
+unfoldable pub sayings : List Said
+sayings =
+    says (replicate 15 7) 0 (0 ∷ 1 ∷ 4 ∷ 0 ∷ 0 ∷ 0 ∷ 0 ∷ 0 ∷ 0 ∷ 0 ∷ 0 ∷ 0 ∷ 0 ∷ 0 ∷ 7 ∷ []) ∷
+    says (replicate 13 7) 12 (replicate 13 7) ∷
+    []
+
 pub record Seen : Type 0 where
   pub numbers-so : All (λ (c : Number). kiosk-number numbered (c .field) (c .index) ≡ c .number) numbers
   pub input-numbers-so : All (λ (c : Number). input-number numbered-input (c .field) ≡ c .number) input-numbers
   pub layouts-so : All (λ (c : Laid). layout numbered (c .from) ≡ c .reply) layouts
   pub pages-so : All (λ (c : Paged). Lists (board-list (c .journal) (c .text)) (c .page) (c .text-after)) pages
+  pub sayings-so : All (λ (c : Said). Says-again (board-again (c .journal) (c .used) (c .table) (c .area)) (c .reply) (c .table-after) (c .area-after)) sayings

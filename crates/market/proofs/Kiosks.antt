@@ -42,7 +42,7 @@ use Rattle.market.proofs.Honest.{arrivals, honest}
 
 -- ## A file that is lent as the first part of an area
 
-within : (d area : List ℕ) → take (length d) area ≡ d → length d ≤ length area
+pub within : (d area : List ℕ) → take (length d) area ≡ d → length d ≤ length area
 within d area e = omega (arith, length-take (length d) area, ap length e)
 
 module _ (roll : Roll) where

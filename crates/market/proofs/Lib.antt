@@ -8,6 +8,7 @@ pub mod Settled
 pub mod Kiosks
 pub mod Each
 pub mod OneSheet
+pub mod Again
 pub mod Schedule
 pub mod Examples
 pub mod Premises

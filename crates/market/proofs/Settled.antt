@@ -86,7 +86,7 @@ abbrev pub settling : Past → Out
 settling p = settled (settled-round (p .kiosk .state .progress .phase)) (settled-sheet p)
 
 -- among the outputs, those of the calls
-acts-in : (o : Output) (os : List Output) → In o os → In (act o) (acts os)
+pub acts-in : (o : Output) (os : List Output) → In o os → In (act o) (acts os)
 acts-in o [] h = absurd h
 acts-in o (x ∷ os) (inl e) = inl (ap act e)
 acts-in o (x ∷ os) (inr h) = inr (acts-in o os h)
