@@ -16,6 +16,7 @@
 static int file;
 static uint8_t journal[SLIP_ROOMY + 1]; /* one byte more, to see that a file is too long */
 static uint64_t table[SLIP_TABLE];
+static uint8_t said[SLIP_AGAIN]; /* at waking: what is to be said again */
 static struct slip_kiosk kiosk;
 
 static void stop(const char *what, const char *why)
@@ -60,7 +61,7 @@ static void cut_file(size_t length)
  * not open is not touched. */
 static uint32_t wake(void)
 {
-    struct slip_reply reply = slip_open(journal, SLIP_ROOMY, read_all(), table, SLIP_TABLE);
+    struct slip_reply reply = slip_again(journal, SLIP_ROOMY, read_all(), table, SLIP_TABLE, said, sizeof said);
     if (reply.number == SLIP_ACCEPTED)
         cut_file(reply.kiosk.used);
     else
@@ -88,15 +89,11 @@ static void keep_name(char *path)
         stop("keeping the journal's name", strerror(errno));
 }
 
-/* What the last group put out: 1 to 3 go to the radio, 4 to 6 to the clock, 7 to the vendor. */
-static void send_last(void)
+/* So many outputs of 12 bytes: 1 to 3 go to the radio, 4 to 6 to the clock, 7 to the vendor. */
+static void say(const uint8_t *output, unsigned count)
 {
-    struct slip_part part = slip_last(kiosk, journal, SLIP_ROOMY);
-    const uint8_t *group = journal + part.from;
-    unsigned count = part.count == 0 ? 0 : group[25];
     printf("outputs %u\n", count);
-    for (unsigned k = 0; k < count; k++) {
-        const uint8_t *output = group + SLIP_GROUP(k);
+    for (; count > 0; count--, output += 12) {
         uint64_t name = 0;
         for (int i = 11; i >= 4; i--)
             name = name << 8 | output[i];
@@ -104,19 +101,23 @@ static void send_last(void)
     }
 }
 
-/* After waking: what a power cut may have kept from the air, and the timers that are still waited for. One started twice does no harm. */
+/* What the last group put out. */
+static void send_last(void)
+{
+    struct slip_part part = slip_last(kiosk, journal, SLIP_ROOMY);
+    const uint8_t *group = journal + part.from;
+    say(group + SLIP_GROUP(0), group[25]);
+}
+
+/* After waking: what a power cut may have kept from the air, the timers that are open, and what is settled. */
 static void take_up(void)
 {
+    const uint8_t *timers = said + SLIP_LIST(said[0]);
     printf("awake %zu\n", kiosk.used);
-    send_last();
-    if (kiosk.phase != SLIP_RUNNING)
-        return;
-    if (kiosk.asked_propose && kiosk.step == SLIP_PROPOSE)
-        printf("timer %d %u\n", SLIP_IN_TIMER_PROPOSE, kiosk.round);
-    if (kiosk.asked_prevote && kiosk.step == SLIP_PREVOTE)
-        printf("timer %d %u\n", SLIP_IN_TIMER_PREVOTE, kiosk.round);
-    if (kiosk.asked_precommit)
-        printf("timer %d %u\n", SLIP_IN_TIMER_PRECOMMIT, kiosk.round);
+    say(said + 1, said[0]);
+    say(timers + 1, timers[0]);
+    if (kiosk.phase == SLIP_SETTLED)
+        say(journal + kiosk.used - 12, 1);
 }
 
 /* One input: put, made durable, and only then sent. */

@@ -6,14 +6,14 @@
 #include <sys/uio.h>
 #include <unistd.h>
 
-enum call { CREATE, OPEN, PUT, LAST, LIST, KIOSK_NUMBER, INPUT_NUMBER, LAYOUT };
+enum call { CREATE, OPEN, AGAIN, PUT, LAST, LIST, KIOSK_NUMBER, INPUT_NUMBER, LAYOUT };
 
 /* The areas come behind it, in this order, so that each is aligned. The last is not sent back. */
 struct request {
     uint64_t call;
     uint64_t values[2];  /* what goes by value beside the structs, in the header's order */
     uint64_t numbers;    /* bytes of the powers or the table */
-    uint64_t written;    /* bytes of the journal or the text that is written */
+    uint64_t written;    /* bytes of the journal, the text or what is said again, which is written */
     uint64_t read;       /* bytes of the journal that is only read */
     struct slip_kiosk kiosk;
     struct slip_input input;
@@ -71,6 +71,9 @@ static size_t call(union answer *answer)
         return sizeof answer->made;
     case OPEN:
         answer->reply = slip_open(only_read, r->read, r->values[0], table, places);
+        return sizeof answer->reply;
+    case AGAIN:
+        answer->reply = slip_again(only_read, r->read, r->values[0], table, places, written, r->written);
         return sizeof answer->reply;
     case PUT:
         answer->reply = slip_put(r->kiosk, r->input, table, places, written, r->written);

@@ -6,7 +6,7 @@
 size_t stack_used(void (*call)(void *), void *with);
 
 static const uint16_t powers[3] = {5, 3, 1};
-static uint8_t journal[SLIP_ROOMY], text[SLIP_TEXT];
+static uint8_t journal[SLIP_ROOMY], text[SLIP_TEXT], said[SLIP_AGAIN];
 static uint64_t table[SLIP_TABLE];
 static struct slip_reply reply;
 static struct slip_made made;
@@ -24,6 +24,11 @@ static void create(void *none)
 static void open_all(void *used)
 {
     reply = slip_open(journal, sizeof journal, *(size_t *)used, table, SLIP_TABLE);
+}
+
+static void again(void *used)
+{
+    reply = slip_again(journal, sizeof journal, *(size_t *)used, table, SLIP_TABLE, said, sizeof said);
 }
 
 static void put(void *none)
@@ -97,6 +102,8 @@ int main(void)
     size_t used = reply.kiosk.used;
     told("open", stack_used(open_all, &used), SLIP_STACK_OPEN);
     wrong += reply.number != SLIP_ACCEPTED || reply.kiosk.used != used;
+    told("again", stack_used(again, &used), SLIP_STACK_AGAIN);
+    wrong += reply.number != SLIP_ACCEPTED || said[0] != 4;
     told("last", stack_used(last, NULL), SLIP_STACK_LAST);
     told("list", stack_used(list, &used), SLIP_STACK_LIST);
     wrong += part.count != SLIP_MOST_GROUP || page.number != SLIP_ACCEPTED;

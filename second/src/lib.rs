@@ -3,6 +3,7 @@
 
 #![forbid(unsafe_code)]
 
+mod again;
 mod calls;
 mod journal;
 mod kiosk;
@@ -15,7 +16,7 @@ mod rules;
 mod state;
 pub mod weighing;
 
-pub use calls::{create, last, open, put, put_traced, Created, Reply};
+pub use calls::{create, last, open, put, put_traced, say_again, Created, Reply};
 pub use journal::roomy;
 pub use listing::listing;
 pub use records::{Input, Output};

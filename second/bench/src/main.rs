@@ -1,9 +1,10 @@
-//! `bench FILE`: put and open of the proved build and of fast, side by side; the table goes into FILE, the rest of it stays.
+//! `bench FILE`: put, open and again of the proved build and of fast, side by side; the table goes into FILE, the rest of it stays.
 
 mod cold;
 mod heights;
 mod stack;
 
+use compare::again::list;
 use flat::Kiosk;
 use heights::Height;
 use std::fmt::Write;
@@ -28,27 +29,28 @@ struct Case {
     what: &'static str,
     kiosks: u8,
     round: u8,
-    /// Before its last round for put, settled for open.
+    /// Settled; for put, and for again with an open timer, before its last round.
     height: Height,
 }
 
 fn cases() -> Vec<Case> {
     let mut cases = Vec::new();
-    for what in ["put", "open"] {
+    for what in ["put", "open", "again"] {
         for kiosks in [4, 28, 32] {
             for round in [0, 12] {
                 let before = heights::before(kiosks, round);
-                let height = if what == "put" {
-                    before
-                } else {
-                    heights::after(&before).0
+                let settled = heights::after(&before).0;
+                let heights = match what {
+                    "put" => vec![before],
+                    "again" if round > 0 => vec![settled, before],
+                    _ => vec![settled],
                 };
-                cases.push(Case {
+                cases.extend(heights.into_iter().map(|height| Case {
                     what,
                     kiosks,
                     round,
                     height,
-                });
+                }));
             }
         }
     }
@@ -60,6 +62,7 @@ struct Lent {
     kiosk: Kiosk,
     table: Vec<u64>,
     journal: Vec<u8>,
+    said: [u8; flat::AGAIN],
 }
 
 impl Case {
@@ -68,6 +71,7 @@ impl Case {
             kiosk: self.height.kiosk,
             table: self.height.table.clone(),
             journal: self.height.journal.clone(),
+            said: [0; flat::AGAIN],
         }
     }
 
@@ -77,7 +81,7 @@ impl Case {
         lent.journal.copy_from_slice(&self.height.journal);
     }
 
-    /// How many deliveries the case has; opening is one call.
+    /// How many deliveries the case has; each of the others is one call.
     fn calls(&self) -> usize {
         if self.what == "put" {
             self.height.inputs.len()
@@ -86,7 +90,7 @@ impl Case {
         }
     }
 
-    /// Groups of the journal that is opened.
+    /// Groups of the journal that is read.
     fn groups(&self) -> usize {
         let mut at = 7 + 2 * usize::from(self.kiosks);
         let mut groups = 0;
@@ -97,8 +101,16 @@ impl Case {
         groups
     }
 
+    /// Timers that are asked for again.
+    fn timers(&self) -> usize {
+        let mut lent = self.lent();
+        self.call(Engine::Fast, 0, &mut lent);
+        list(list(&lent.said).1).0.len()
+    }
+
     /// One call; every one is accepted.
     fn call(&self, engine: Engine, at: usize, lent: &mut Lent) {
+        let used = self.height.kiosk.used;
         let number = match (self.what, engine) {
             ("put", Engine::Board) => {
                 let input = &self.height.inputs[at];
@@ -121,21 +133,36 @@ impl Case {
                 ))
                 .number
             }
-            (_, Engine::Board) => {
-                let reply = black_box(board::open(
+            ("open", Engine::Board) => {
+                let reply = black_box(board::open(&lent.journal, used, &mut lent.table));
+                lent.kiosk = reply.kiosk;
+                reply.number
+            }
+            ("open", Engine::Fast) => {
+                black_box(fast::open(
                     &lent.journal,
-                    self.height.kiosk.used,
+                    used,
                     &mut lent.table,
+                    &mut lent.kiosk,
+                ))
+                .number
+            }
+            (_, Engine::Board) => {
+                let reply = black_box(board::again(
+                    &lent.journal,
+                    used,
+                    &mut lent.table,
+                    &mut lent.said,
                 ));
                 lent.kiosk = reply.kiosk;
                 reply.number
             }
             (_, Engine::Fast) => {
-                let used = self.height.kiosk.used;
-                black_box(fast::open(
+                black_box(fast::say_again(
                     &lent.journal,
                     used,
                     &mut lent.table,
+                    &mut lent.said,
                     &mut lent.kiosk,
                 ))
                 .number
@@ -178,6 +205,7 @@ impl Case {
                 cold::flush(std::slice::from_ref(&lent.kiosk));
                 cold::flush(&lent.table);
                 cold::flush(&lent.journal);
+                cold::flush(&lent.said);
                 let from = Instant::now();
                 self.call(engine, at, &mut lent);
                 *best = best.min(from.elapsed().as_nanos() as f64);
@@ -377,13 +405,11 @@ fn table() -> String {
             times += &beside(ENGINES.map(|engine| case.cold(engine, &mut large)));
         }
         let stack = ENGINES.map(|engine| case.stack(engine));
+        let read = format!("{} groups, {} bytes", case.groups(), case.height.kiosk.used);
         let what = match case.what {
             "put" => format!("put, each of {}", case.calls()),
-            _ => format!(
-                "open {} groups, {} bytes",
-                case.groups(),
-                case.height.kiosk.used
-            ),
+            "open" => format!("open {read}"),
+            _ => format!("again {read}, timers {}", case.timers()),
         };
         line(format_args!(
             "| {what} | {} | {} |{}{times} {} | {} |",

@@ -8,7 +8,7 @@ mod linked;
 mod linked;
 
 use compare::Engine;
-pub use linked::{create, input_number, kiosk_number, last, layout, list, open, put};
+pub use linked::{again, create, input_number, kiosk_number, last, layout, list, open, put};
 
 /// The archive of the library.
 pub const LIBRARY: &str = env!("SLIP_LIBRARY");
@@ -18,6 +18,7 @@ pub const BOARD: Engine = Engine {
     name: "board",
     create,
     open,
+    again,
     put,
     last,
 };

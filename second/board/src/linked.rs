@@ -18,6 +18,15 @@ extern "C" {
         table: *mut u64,
         places: usize,
     ) -> Reply;
+    fn slip_again(
+        journal: *const u8,
+        area: usize,
+        used: usize,
+        table: *mut u64,
+        places: usize,
+        said: *mut u8,
+        room: usize,
+    ) -> Reply;
     fn slip_put(
         kiosk: Kiosk,
         input: Input,
@@ -56,6 +65,21 @@ pub fn open(journal: &[u8], used: usize, table: &mut [u64]) -> Reply {
             used,
             table.as_mut_ptr(),
             table.len(),
+        )
+    }
+}
+
+pub fn again(journal: &[u8], used: usize, table: &mut [u64], said: &mut [u8]) -> Reply {
+    // SAFETY: as in `create`.
+    unsafe {
+        slip_again(
+            journal.as_ptr(),
+            journal.len(),
+            used,
+            table.as_mut_ptr(),
+            table.len(),
+            said.as_mut_ptr(),
+            said.len(),
         )
     }
 }

@@ -13,6 +13,7 @@ use std::slice::{from_mut, from_ref};
 enum Call {
     Create,
     Open,
+    Again,
     Put,
     Last,
     List,
@@ -159,16 +160,25 @@ pub fn create(powers: &[u16], own: usize, height: u32, journal: &mut [u8]) -> Ma
 }
 
 pub fn open(journal: &[u8], used: usize, table: &mut [u64]) -> Reply {
+    wake(Call::Open, journal, used, table, &mut [])
+}
+
+pub fn again(journal: &[u8], used: usize, table: &mut [u64], said: &mut [u8]) -> Reply {
+    wake(Call::Again, journal, used, table, said)
+}
+
+/// Opening with or without an area for what is said again.
+fn wake(which: Call, journal: &[u8], used: usize, table: &mut [u64], said: &mut [u8]) -> Reply {
     let request = Request {
         values: [used as u64, 0],
         ..Request::default()
     };
     let areas = Areas {
         numbers: bytes_mut(table),
+        written: said,
         read: journal,
-        ..Areas::default()
     };
-    call(Call::Open, request, areas)
+    call(which, request, areas)
 }
 
 pub fn put(kiosk: &Kiosk, input: &Input, table: &mut [u64], journal: &mut [u8]) -> Reply {

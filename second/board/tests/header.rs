@@ -18,14 +18,19 @@ fn lengths() {
     right.extend(group_lengths());
     let numbers = [flat::KIOSKS, flat::ROUNDS, flat::TABLE, flat::SENT];
     right.push(numbers.map(|number| number.to_string()).join(" "));
-    right.push(format!("71 98 {} {}", flat::ROOMY, flat::TEXT));
-    right.extend(["8 8 8 8".into(), "1.0 1".into()]);
+    right.push(format!(
+        "71 98 {} {} {}",
+        flat::AGAIN,
+        flat::ROOMY,
+        flat::TEXT
+    ));
+    right.extend(["8 8 8 8".into(), "1.1 1".into()]);
     let is = c::run(&["second/board/header.c"]);
     assert_eq!(is.lines().collect::<Vec<_>>(), right);
     assert_eq!(flat::ROOMY, second::roomy(flat::KIOSKS));
 }
 
-/// The length of a group by its number of outputs, from deliveries that have had each.
+/// The length of a group by its number of outputs, from deliveries that have had each, and of a list: what stands behind the input.
 fn group_lengths() -> Vec<String> {
     let mut lengths = [0; flat::SENT + 1];
     for seed in 0.. {
@@ -41,7 +46,7 @@ fn group_lengths() -> Vec<String> {
             }
         }
     }
-    let line = |(k, length)| format!("{k} {length}");
+    let line = |(k, length)| format!("{k} {length} {}", length - 25);
     lengths.into_iter().enumerate().map(line).collect()
 }
 

@@ -155,8 +155,11 @@ fn layout_from_c() {
 fn example_in_c() {
     let right = "created: 15 bytes\n\
                  opened: kiosk 0 of 4, height 1\n\
+                 said again: 0 messages, 0 timers\n\
                  start: number 0, 1 outputs\n  kind 4 round 0 name 0\n\
                  prevote: number 0, 0 outputs\n\
-                 last group: 26 bytes at 53\n";
+                 last group: 26 bytes at 53\n\
+                 opened: kiosk 0 of 4, height 1\n\
+                 said again: 0 messages, 1 timers\n";
     assert_eq!(c::run(&["include/example.c"]), right);
 }

@@ -3,7 +3,9 @@
 
 mod common;
 use common::*;
+use compare::again::list;
 use compare::inputs::{precommit, prevote, proposal, start};
+use compare::terms::flat_output;
 use compare::{Aim, Delivery, Lent, Market};
 use second::Input;
 use std::io::{BufRead, BufReader, Read, Write};
@@ -110,6 +112,12 @@ impl Loop {
         lines
     }
 
+    /// What it says at waking: the used length, the messages and the timers.
+    fn woken(&mut self) -> Vec<String> {
+        let first = vec![self.line()];
+        [first, self.answer(), self.answer()].concat()
+    }
+
     fn put(&mut self, i: &Input) -> Vec<String> {
         let stdin = self.child.stdin.as_mut().expect("a pipe");
         let (kind, sender, round) = (i.kind, i.sender, i.round);
@@ -154,6 +162,20 @@ fn printed(number: u32, sent: &[flat::Output]) -> Vec<String> {
     lines
 }
 
+/// What it says at waking, by second's lists.
+fn woken(lent: &Lent) -> Vec<String> {
+    let used = lent.kiosk.used;
+    let (_, said) = SIDES.again(used, &mut lent.clone(), flat::AGAIN);
+    let (messages, rest) = list(&said);
+    let (timers, _) = list(rest);
+    let mut lines = vec![format!("awake {used}")];
+    for outputs in [messages, timers] {
+        let outputs: Vec<_> = outputs.iter().map(flat_output).collect();
+        lines.extend(printed(0, &outputs));
+    }
+    lines
+}
+
 fn holds(file: &Path, lent: &Lent) -> bool {
     std::fs::read(file).expect("the file") == lent.journal[..lent.kiosk.used]
 }
@@ -173,8 +195,8 @@ fn put_both(run: &mut Loop, file: &Path, lent: &mut Lent, input: &Input) {
 fn told(file: &Path, inputs: &[Input]) -> Lent {
     let mut lent = SIDES.opened(&market(HEIGHT));
     let mut run = Loop::begin(file);
-    assert_eq!([run.line(), run.line()], ["created 15", "awake 15"]);
-    assert_eq!(run.answer(), ["outputs 0"]);
+    assert_eq!(run.line(), "created 15");
+    assert_eq!(run.woken(), woken(&lent));
     for input in inputs {
         put_both(&mut run, file, &mut lent, input);
     }
@@ -190,10 +212,11 @@ fn a_height() {
     let file = fresh_file("a_height");
     let lent = told(&file, &story());
     assert_eq!(lent.kiosk.phase, flat::SETTLED);
-    // Settled: the last group is put out again, and no timer is waited for.
+    // Settled: both votes are said again, no timer is open, and the vendor is told again.
     let (text, _, well) = run(&file);
-    assert!(well && text.starts_with(&format!("awake {}\noutputs ", lent.kiosk.used)));
-    assert!(text.ends_with("\n7 0 0 50\n"), "{text}");
+    let right = "outputs 2\n2 0 0 50\n3 0 0 50\noutputs 0\noutputs 1\n7 0 0 50\n";
+    assert!(well);
+    assert_eq!(text, format!("awake {}\n{right}", lent.kiosk.used));
 }
 
 /// Many rounds, over several blocks of the disk, with inputs of all kinds and spoilt ones.
@@ -203,8 +226,7 @@ fn many_blocks() {
     let mut lent = told(&file, &[]);
     let mut delivery = Delivery::new(3, Aim::Drag);
     let mut run = Loop::begin(&file);
-    run.line();
-    run.answer();
+    run.woken();
     while lent.kiosk.used < 1_200 {
         let state = lent.state().expect("a state that calls left");
         let mut input = delivery.input(&state, &lent.table);
@@ -212,6 +234,7 @@ fn many_blocks() {
         put_both(&mut run, &file, &mut lent, &input);
     }
     assert!(run.end().2);
+    assert_eq!(Loop::begin(&file).woken(), woken(&lent));
 }
 
 /// Cut at every byte of a group, killed between: it goes on from the groups before, and second agrees to the end.
@@ -226,8 +249,7 @@ fn torn_tail() {
         std::fs::write(&file, &whole.journal[..cut]).expect("the file cut");
         let mut lent = before.clone();
         let mut run = Loop::begin(&file);
-        assert_eq!(run.line(), format!("awake {}", lent.kiosk.used));
-        assert_eq!(run.answer(), ["outputs 0"]);
+        assert_eq!(run.woken(), woken(&before));
         assert!(holds(&file, &before));
         put_both(&mut run, &file, &mut lent, &story[5]);
         assert_eq!(lent.kiosk, whole.kiosk);
@@ -236,16 +258,20 @@ fn torn_tail() {
     }
 }
 
-/// After waking the last group's outputs come again, and a timer that was asked for a group before.
+/// After waking what groups before the last have said comes again, and a timer that they asked for.
 #[test]
 fn taken_up() {
     let file = fresh_file("taken_up");
     let story = story();
     let lent = told(&file, &[story[1], story[4]]);
-    let right = format!("awake {}\noutputs 0\ntimer 5 0\n", lent.kiosk.used);
+    let right = format!("awake {}\noutputs 0\noutputs 1\n4 0 0 0\n", lent.kiosk.used);
     assert_eq!(run(&file), (right, String::new(), true));
-    std::fs::write(&file, &lent.journal[..lent.kiosk.last]).expect("the file cut");
-    let right = "awake 53\noutputs 1\n4 0 0 0\ntimer 5 0\n".into();
+    let file = fresh_file("taken_up");
+    let lent = told(&file, &story[..5]);
+    let right = format!(
+        "awake {}\noutputs 1\n2 0 0 50\noutputs 0\n",
+        lent.kiosk.used
+    );
     assert_eq!(run(&file), (right, String::new(), true));
 }
 
@@ -257,7 +283,7 @@ fn short_header_and_damage() {
     for cut in 0..HEADER {
         std::fs::write(&file, &lent.journal[..cut]).expect("the file cut");
         let right = (
-            "created 15\nawake 15\noutputs 0\n".into(),
+            "created 15\nawake 15\noutputs 0\noutputs 0\n".into(),
             "loop: refused 13 at 0\n".into(),
             true,
         );
@@ -306,8 +332,7 @@ fn failed_write() {
         let mut lent = told(&file, &story[..5]);
         let limit = (lent.kiosk.used + over).to_string();
         let mut run = Loop::where_fails(&file, HEIGHT, &limit, "");
-        run.line();
-        run.answer();
+        run.woken();
         for _ in 0..2 {
             assert_eq!(run.put(&story[5]), ["not written"], "limit {limit}");
             assert!(holds(&file, &lent));
@@ -329,8 +354,8 @@ fn failed_start() {
     let height = 4;
     let mut lent = SIDES.opened(&market(height));
     let mut run = Loop::where_fails(&file, height, "20", "");
-    assert_eq!([run.line(), run.line()], ["created 15", "awake 15"]);
-    run.answer();
+    assert_eq!(run.line(), "created 15");
+    run.woken();
     let start = start(height, OFFER);
     assert_eq!(run.put(&start), ["not written"]);
     run.unlimit();
@@ -347,15 +372,13 @@ fn failed_fsync() {
     let story = story();
     let mut lent = told(&file, &story[..5]);
     let mut run = Loop::where_fails(&file, HEIGHT, "unlimited", "c");
-    run.line();
-    run.answer();
+    run.woken();
     assert_eq!(run.put(&story[5]), ["not written"]);
     assert!(holds(&file, &lent));
     put_both(&mut run, &file, &mut lent, &story[5]);
     assert!(run.end().2);
     let mut run = Loop::where_fails(&file, HEIGHT, "unlimited", "cd");
-    run.line();
-    run.answer();
+    run.woken();
     assert_eq!(run.put(&story[6]), [""]);
     let (text, said, well) = run.end();
     assert!(text.is_empty() && said.contains("cutting the journal") && !well);
@@ -364,8 +387,7 @@ fn failed_fsync() {
     assert!(text.is_empty() && said.contains("cutting the journal") && !well);
     // The next start opens what is there, and goes on.
     let mut run = Loop::begin(&file);
-    assert_eq!(run.line(), format!("awake {}", lent.kiosk.used));
-    run.answer();
+    assert_eq!(run.woken(), woken(&lent));
     put_both(&mut run, &file, &mut lent, &story[6]);
     assert!(run.end().2);
 }

@@ -3,28 +3,15 @@
 mod common;
 use common::*;
 use compare::inputs::{precommit, timer};
+use compare::made_up::damaged;
 use compare::{Aim, Delivery, Lent, Market, Met};
-
-/// Long enough for several rounds, short enough to be opened at every length.
-const LONGEST: usize = 900;
-
-/// What is lent when the next group would go over `LONGEST`, or nothing more comes.
-fn bounded(seed: usize) -> (Delivery, Lent) {
-    let (mut delivery, mut lent) = delivered(seed, 1 + seed * 7 % 32, 1, &mut Met::default());
-    let mut puts = 0;
-    while lent.kiosk.used < LONGEST - 98 && puts < 100 && lent.kiosk.phase != flat::SETTLED {
-        SIDES.deliver(&mut delivery, &mut lent, 1, &mut Met::default());
-        puts += 1;
-    }
-    (delivery, lent)
-}
 
 /// Opened at every length; and an input put to what each opening gives.
 #[test]
 fn every_cut() {
     let (mut cuts, mut unfinished, mut on, mut bytes) = (0, 0, 0, 0);
     for seed in 0..100 * times() {
-        let (mut delivery, lent) = bounded(seed);
+        let (mut delivery, lent) = SIDES.bounded(seed);
         bytes += lent.kiosk.used;
         for cut in 0..=lent.kiosk.used {
             let mut lent = lent.clone();
@@ -47,21 +34,14 @@ fn every_cut() {
     assert!(unfinished > 0 && on > 0);
 }
 
-/// Every byte changed in three ways: one bit, all bits, and to the count of an input.
 #[test]
 fn every_byte() {
     let mut met = Met::default();
     for seed in 0..10 * times() {
-        let (_, mut lent) = bounded(seed);
-        let used = lent.kiosk.used;
-        for at in 0..used {
-            let is = lent.journal[at];
-            for byte in [is ^ 1 << (at % 8), !is, 24] {
-                lent.journal[at] = byte;
-                met.number(SIDES.open(used, &mut lent).number);
-            }
-            lent.journal[at] = is;
-        }
+        let (_, mut lent) = SIDES.bounded(seed);
+        damaged(&mut lent, |used, lent| {
+            met.number(SIDES.open(used, lent).number);
+        });
     }
     met.check_numbers("damage", [0, 14]);
 }

@@ -1,5 +1,5 @@
 //! A string of bytes played as calls: a journal to open with a used length and an area, then puts, made-up ones among
-//! them, and power cuts. For the fuzzer and its kept cases.
+//! them, and power cuts, after which it is said again. For the fuzzer and its kept cases.
 
 use crate::calls::{Lent, Sides};
 use flat::heard;
@@ -31,6 +31,7 @@ const MOST_CALLS: usize = 200;
 pub fn play(sides: Sides, data: &[u8]) -> Option<usize> {
     let mut bytes = Bytes(data);
     let (mut lent, used) = journal(sides, &mut bytes);
+    sides.again(used, &mut lent.clone(), flat::AGAIN);
     if sides.open(used, &mut lent).number != 0 {
         return None;
     }
@@ -41,9 +42,10 @@ pub fn play(sides: Sides, data: &[u8]) -> Option<usize> {
         match bytes.byte() % 8 {
             0 => made_up_put(sides, &mut bytes, lent.clone()),
             1 => {
-                // Also a byte or two past the end.
-                let cut = bytes.pair() % (lent.kiosk.used + 3);
-                sides.open(cut, &mut lent.clone());
+                // Also a byte or two past the end. What is left of the number is the room to say it again.
+                let (number, lengths) = (bytes.pair(), lent.kiosk.used + 3);
+                sides.open(number % lengths, &mut lent.clone());
+                sides.again(number % lengths, &mut lent.clone(), number / lengths);
             }
             _ => put(sides, &mut bytes, &mut lent),
         }

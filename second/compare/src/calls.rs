@@ -1,6 +1,6 @@
 //! Each call put to an engine and to second, with lent things of their own, and compared whole.
 
-use crate::deliveries::{Delivery, Market};
+use crate::deliveries::{Delivery, Market, AIMS};
 use crate::met::Met;
 use crate::terms::{flat_input, flat_reply, state};
 use flat::{Kiosk, Made, Part, Reply, TABLE};
@@ -12,6 +12,7 @@ pub struct Engine {
     pub name: &'static str,
     pub create: fn(&[u16], usize, u32, &mut [u8]) -> Made,
     pub open: fn(&[u8], usize, &mut [u64]) -> Reply,
+    pub again: fn(&[u8], usize, &mut [u64], &mut [u8]) -> Reply,
     pub put: fn(&Kiosk, &flat::Input, &mut [u64], &mut [u8]) -> Reply,
     pub last: fn(&Kiosk, &[u8]) -> Part,
 }
@@ -22,6 +23,11 @@ pub const FAST: Engine = Engine {
     open: |journal, used, table| {
         let mut kiosk = Kiosk::default();
         let done = fast::open(journal, used, table, &mut kiosk);
+        fast_reply(done, kiosk)
+    },
+    again: |journal, used, table, said| {
+        let mut kiosk = Kiosk::default();
+        let done = fast::say_again(journal, used, table, said, &mut kiosk);
         fast_reply(done, kiosk)
     },
     put: |kiosk, input, table, journal| {
@@ -58,6 +64,9 @@ pub const JUNK: u8 = 0xa5;
 
 /// More bytes than the largest group has.
 const SPARE: usize = 128;
+
+/// Long enough for several rounds, short enough to be opened at every length.
+const BOUND: usize = 900;
 
 /// What a caller owns.
 #[derive(Clone)]
@@ -116,6 +125,24 @@ impl Sides<'_> {
         }
         lent.kiosk = right.kiosk;
         right
+    }
+
+    /// Opens and says it again in an area of so many bytes; gives the reply and the area, as second leaves it.
+    pub fn again(&self, used: usize, lent: &mut Lent, room: usize) -> (Reply, Vec<u8>) {
+        let before = lent.table.clone();
+        let mut said = vec![JUNK; room];
+        let right = second::say_again(&lent.journal, used, &mut lent.table, &mut said);
+        let right = flat_reply(&right);
+        for engine in self.0 {
+            let (mut table, mut area) = (before.clone(), vec![JUNK; room]);
+            let is = (engine.again)(&lent.journal, used, &mut table, &mut area);
+            let name = engine.name;
+            assert_eq!(is, right, "{name}: {used} bytes said again in {room}");
+            same(engine, "table after saying it again", &table, &lent.table);
+            same(engine, "area after saying it again", &area, &said);
+        }
+        lent.kiosk = right.kiosk;
+        (right, said)
     }
 
     /// The reply, and the lines of the rules that fired.
@@ -195,6 +222,32 @@ impl Sides<'_> {
             }
         }
         puts
+    }
+
+    /// A delivery, and what is lent after so many of its puts.
+    pub fn delivered(
+        &self,
+        seed: usize,
+        kiosks: usize,
+        puts: usize,
+        met: &mut Met,
+    ) -> (Delivery, Lent) {
+        let mut delivery = Delivery::new(seed as u64, AIMS[seed % 4]);
+        let mut lent = self.opened(&delivery.market(kiosks));
+        self.deliver(&mut delivery, &mut lent, puts, met);
+        (delivery, lent)
+    }
+
+    /// The same when the next group would go over `BOUND`, or nothing more comes.
+    pub fn bounded(&self, seed: usize) -> (Delivery, Lent) {
+        let met = &mut Met::default();
+        let (mut delivery, mut lent) = self.delivered(seed, 1 + seed * 7 % 32, 1, met);
+        let mut puts = 0;
+        while lent.kiosk.used < BOUND - 98 && puts < 100 && lent.kiosk.phase != flat::SETTLED {
+            self.deliver(&mut delivery, &mut lent, 1, met);
+            puts += 1;
+        }
+        (delivery, lent)
     }
 }
 

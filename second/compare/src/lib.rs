@@ -3,6 +3,7 @@
 
 #![forbid(unsafe_code)]
 
+pub mod again;
 pub mod bytes;
 pub mod calls;
 pub mod deliveries;

@@ -291,6 +291,20 @@ pub fn numbers_in_the_log(lent: &Lent) -> Vec<Lent> {
     all
 }
 
+/// What is lent with each of the journal's bytes changed in three ways: one bit, all bits, and to the count of an input. `look` gets
+/// the used length with it.
+pub fn damaged(lent: &mut Lent, mut look: impl FnMut(usize, &mut Lent)) {
+    let used = lent.kiosk.used;
+    for at in 0..used {
+        let is = lent.journal[at];
+        for byte in [is ^ 1 << (at % 8), !is, 24] {
+            lent.journal[at] = byte;
+            look(used, lent);
+        }
+        lent.journal[at] = is;
+    }
+}
+
 /// An input with every number picked alone, the sender of a proposal aside.
 pub fn input(kiosk: &Kiosk, random: &mut Random) -> Input {
     let kind = byte(random, 8);

@@ -109,16 +109,20 @@ pub fn flat_input(input: &second::Input) -> flat::Input {
     }
 }
 
+pub fn flat_output(output: &second::Output) -> flat::Output {
+    flat::Output {
+        name: output.name,
+        kind: output.kind,
+        round: output.round,
+        valid: output.valid,
+    }
+}
+
 /// Second's reply, its state in flat terms.
 pub fn flat_reply(reply: &second::Reply) -> flat::Reply {
     let mut sent = [flat::Output::default(); flat::SENT];
     for (place, output) in sent.iter_mut().zip(&reply.outputs) {
-        *place = flat::Output {
-            name: output.name,
-            kind: output.kind,
-            round: output.round,
-            valid: output.valid,
-        };
+        *place = flat_output(output);
     }
     flat::Reply {
         number: reply.number.into(),

@@ -111,21 +111,24 @@ pub fn refused(kiosk: &Kiosk, table: &[u64; TABLE], input: &Input) -> u32 {
                 (true, false) => 9,
             }
         }
-        5..=7 => {
-            let due = match input.kind {
-                5 => kiosk.step == PROPOSE && kiosk.asked_propose == 1,
-                6 => kiosk.step == PREVOTE && kiosk.asked_prevote == 1,
-                _ => kiosk.asked_precommit == 1,
-            };
-            if !due || input.round != kiosk.round {
-                10
-            } else if input.kind == 7 && round == ROUNDS - 1 {
-                11
-            } else {
-                0
-            }
-        }
+        5..=7 => refused_timer(kiosk, input.kind, input.round),
         _ => 0,
+    }
+}
+
+/// 10 and 11 of a timer of kind 5 to 7.
+pub fn refused_timer(kiosk: &Kiosk, kind: u8, round: u8) -> u32 {
+    let due = match kind {
+        5 => kiosk.step == PROPOSE && kiosk.asked_propose == 1,
+        6 => kiosk.step == PREVOTE && kiosk.asked_prevote == 1,
+        _ => kiosk.asked_precommit == 1,
+    };
+    if !due || round != kiosk.round {
+        10
+    } else if kind == 7 && usize::from(round) == ROUNDS - 1 {
+        11
+    } else {
+        0
     }
 }
 

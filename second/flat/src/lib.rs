@@ -8,6 +8,8 @@ pub const TABLE: usize = 1_040;
 pub const SENT: usize = 6;
 pub const ROOMY: usize = 28_499;
 pub const TEXT: usize = 114_196;
+/// The room for what is said again that always does.
+pub const AGAIN: usize = 98;
 
 pub const FRESH: u8 = 0;
 pub const RUNNING: u8 = 1;

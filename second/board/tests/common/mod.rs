@@ -6,7 +6,7 @@
 pub mod c;
 
 use board::BOARD;
-use compare::{Delivery, Lent, Met, Sides, AIMS, FAST};
+use compare::{Delivery, Lent, Met, Sides, FAST};
 
 /// The proved build and the fast program, each held against second.
 pub const SIDES: Sides = Sides(&[BOARD, FAST]);
@@ -32,8 +32,5 @@ pub fn times() -> usize {
 
 /// A delivery, and what is lent after so many of its puts.
 pub fn delivered(seed: usize, kiosks: usize, puts: usize, met: &mut Met) -> (Delivery, Lent) {
-    let mut delivery = Delivery::new(seed as u64, AIMS[seed % 4]);
-    let mut lent = SIDES.opened(&delivery.market(kiosks));
-    SIDES.deliver(&mut delivery, &mut lent, puts, met);
-    (delivery, lent)
+    SIDES.delivered(seed, kiosks, puts, met)
 }
