@@ -83,7 +83,7 @@ soak: emulator staticlib
 	cd second && $(CARGO) test --release --test deliveries -- --ignored --nocapture
 	cd second && SLIP_CALLS=$(SOAK_CALLS) $(CARGO) test --release -p board -- --nocapture
 
-# libFuzzer over open and put. The Rust side is instrumented (second, fast and what compares them); libboard.a is as rt writes it.
+# libFuzzer over open, again and put. The Rust side is instrumented (second, fast and what compares them); libboard.a is as rt writes it.
 # What fails is left in second/fuzz/found; what shall be played by `make test` from then on goes to second/fuzz/cases.
 FUZZ := $(CARGO_TARGET_DIR)/fuzz
 COVERAGE := -Cpasses=sancov-module -Ccodegen-units=1 $(addprefix -Cllvm-args=-sanitizer-coverage-,level=4 inline-8bit-counters pc-table trace-compares)

@@ -2,20 +2,11 @@
 use crate::files::load;
 use crate::tell;
 use disk::Outcome;
-use disk::cut;
 use kiosk::Kiosk;
-use kiosk::Reply;
 use lines::input_of;
-use opening::open;
 use refusals::Answer;
-use refusals::answers::is_accepted;
 use rules::State;
-ghost use Prim.Native.Nat.{_≤_};
-ghost use mathlib.Core.Path.{_≡_};
-ghost use mathlib.Core.Bool.{true};
-ghost use lib.ListN.{length};
-ghost use Rattle.refusals.specs.Answers.{is-accepted};
-ghost use Rattle.disk.specs.Disk.{most-place};
+use serving::Begun;
 
 // The longest line that is read, its newline aside.
 const LINE: usize = 127;
@@ -187,35 +178,22 @@ fn serve(
     }
 }
 
-// What opening all bytes of a journal gives: the used length is within them.
-fn opened(journal: &[u8], table: &mut [u64]) -> Reply
-    ensures { λ r. ⌜ (is-accepted (r .answer) ≡ true → r .kiosk .used ≤ length (now (journal .entry))) ⌝ }
-{
-    open(journal, journal.len(), table)
-}
-
-// A journal that opens is cut at its used length, and served.
+// A kiosk that has said what it says first is served. Where its file could not be cut, a line on standard error says why.
 fn begin(
     path: &[u8],
     fd: i32,
-    r: Reply,
+    b: Begun,
     table: &mut [u64; State::TABLE],
     journal: &mut [u8; Kiosk::ROOMY],
-)
-    requires { ⌜ (is-accepted (r .answer) ≡ true → r .kiosk .used ≤ most-place) ⌝ }
-{
-    let answer = r.answer;
-    let k = r.kiosk;
-    let accepted = is_accepted(answer);
-    if accepted {
-        if cut(fd, k.used) {
-            serve(path, fd, k, table, journal);
-            return;
-        }
-        os::fail(path);
+) {
+    let k = b.kiosk;
+    if b.serves {
+        serve(path, fd, k, table, journal);
         return;
     }
-    saying::refused(answer);
+    if !b.cut {
+        os::fail(path);
+    }
 }
 
 fn run_on(path: &[u8], fd: i32) {
@@ -228,8 +206,8 @@ fn run_on(path: &[u8], fd: i32) {
         return;
     }
     if l.is_whole {
-        let r = opened(&journal[..size], &mut table);
-        begin(path, fd, r, &mut table, &mut journal);
+        let b = serving::wake(fd, &journal[..size], &mut table);
+        begin(path, fd, b, &mut table, &mut journal);
         return;
     }
     os::fail(path);

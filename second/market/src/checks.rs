@@ -1,6 +1,6 @@
 //! What must hold of every height. Each check says what it found, in a line.
 
-use crate::words::{Listing, Message, Record};
+use crate::words::{Again, Listing, Message, Output, Record};
 use std::collections::BTreeSet;
 use std::fmt;
 use std::io;
@@ -101,6 +101,33 @@ pub fn remembered(
     })
 }
 
+/// What a run says first is what the second program says of the journal's bytes.
+pub fn said_again(kiosk: usize, bytes: &[u8], again: &Again) -> Result<(), Broken> {
+    let said = [list(&again.messages), list(&again.timers)].concat();
+    let mut area = vec![0; said.len()];
+    let reply = second::say_again(bytes, bytes.len(), &mut [0; second::TABLE], &mut area);
+    hold(reply.number == 0 && area == said, || {
+        format!("kiosk {kiosk} says again otherwise than the second program: {again:?}")
+    })
+}
+
+/// A count, and 12 bytes for each output.
+fn list(outputs: &[Output]) -> Vec<u8> {
+    let mut bytes = vec![outputs.len() as u8];
+    for output in outputs {
+        let (kind, round, valid, name) = match *output {
+            Output::Say(kind, round, name, valid) => {
+                (1 + kind as u8, round, (valid + 1) as u8, name)
+            }
+            Output::Ask(timer, round) => (4 + timer as u8, round, 0, 0),
+            Output::Settled(round, name) => (7, round, 0, name),
+        };
+        bytes.extend([kind, round, valid, 0]);
+        bytes.extend(name.to_le_bytes());
+    }
+    bytes
+}
+
 /// When an answer is read, the file has the bytes of what was accepted, and no others.
 pub fn written(kiosk: usize, expected: u64, length: u64) -> Result<(), Broken> {
     hold(length == expected, || {
@@ -118,7 +145,7 @@ pub fn answered(command: &str, answer: &str, expected: &str) -> Result<(), Broke
 #[cfg(test)]
 mod tests {
     use super::*;
-    use crate::words::Kind;
+    use crate::words::{Kind, Timer};
 
     const JOURNAL: &str =
         "height 1 kiosk 0 of 4 power 4\n1 start 0 0 0 -1 0 9\nout ask-propose 0 0 -1\n\
@@ -213,6 +240,49 @@ mod tests {
         assert!(remembered(0, 91, &records, &fewer).is_err());
         assert!(answers_listed(0, &records, &fewer).is_err());
         assert!(answers_listed(0, &records[..1], &listing()).is_err());
+    }
+
+    /// The journal of a kiosk that heard these: kind, round and name, from kiosk 1.
+    fn journal(heard: &[(u8, u8, u64)]) -> Vec<u8> {
+        let (mut bytes, mut table) = (vec![0; second::roomy(4)], [0; second::TABLE]);
+        let used = second::create(&[1, 1, 1, 1], 0, 1, &mut bytes).used;
+        let mut state = second::open(&bytes, used, &mut table).state;
+        for &(kind, round, name) in heard {
+            let input = second::Input {
+                kind,
+                height: 1,
+                sender: u8::from(kind > 1),
+                round,
+                valid: 0,
+                verdict: u8::from(kind == 2),
+                name,
+                offer: 9,
+            };
+            let reply = second::put(&state, &input, &mut table, &mut bytes);
+            assert_eq!(reply.number, 0);
+            state = reply.state;
+        }
+        bytes.truncate(state.used);
+        bytes
+    }
+
+    #[test]
+    fn saying_other_things_again_is_found() {
+        let said = |bytes: &[u8], messages: &[Output], timers: &[Output]| {
+            let again = Again {
+                messages: messages.to_vec(),
+                timers: timers.to_vec(),
+            };
+            said_again(0, bytes, &again).is_ok()
+        };
+        let prevote = Output::Say(Kind::Prevote, 0, 50, -1);
+        let ask = Output::Ask(Timer::Propose, 0);
+        let (fresh, started) = (journal(&[]), journal(&[(1, 0, 0)]));
+        let prevoted = journal(&[(1, 0, 0), (2, 0, 50)]);
+        assert!(said(&fresh, &[], &[]) && !said(&fresh, &[prevote], &[]));
+        assert!(said(&started, &[], &[ask]) && !said(&started, &[], &[]));
+        assert!(said(&prevoted, &[prevote], &[]) && !said(&prevoted, &[prevote], &[ask]));
+        assert!(!said(&prevoted, &[prevote, prevote], &[]) && !said(&prevoted, &[], &[prevote]));
     }
 
     #[test]

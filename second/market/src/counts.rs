@@ -54,6 +54,9 @@ counts! {
     whole_left,
     headers_torn,
     wakings,
+    /// Messages and timers that nodes said again after waking.
+    said_again,
+    asked_again,
     full,
     late_timers,
 }
@@ -132,6 +135,13 @@ impl fmt::Display for Counts {
                 format!(
                     "{} between calls, {} in calls, {} in creating; {} wakings",
                     self.cuts_between, self.cuts_in_calls, self.headers_torn, self.wakings
+                ),
+            ),
+            (
+                "said again",
+                format!(
+                    "after waking {} messages, {} timers",
+                    self.said_again, self.asked_again
                 ),
             ),
             (

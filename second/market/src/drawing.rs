@@ -312,34 +312,23 @@ fn mark(sheet: &Sheet, moment: &Moment, pen: &mut Pen) {
             pen.words(class, x + right, y + down, words);
         }
     };
+    let cut = |pen: &mut Pen, said: &str| {
+        bolt(x, y, pen);
+        words(pen, "bolt-text", 11.0, 20.0, said);
+    };
     let title = moment.to_string();
     pen.group("", title.trim_start(), |pen| match &moment.what {
         What::Call { input, answer, .. } => called(x, y, input, answer, sheet, pen),
         What::Torn { left, of, .. } => {
-            bolt(x, y, pen);
-            words(
-                pen,
-                "bolt-text",
-                11.0,
-                20.0,
-                &format!("power cut: {left} of {of} bytes left"),
-            );
+            cut(pen, &format!("power cut: {left} of {of} bytes left"));
         }
-        What::Cut => {
-            bolt(x, y, pen);
-            words(pen, "bolt-text", 11.0, 20.0, "power cut");
-        }
+        What::Cut => cut(pen, "power cut"),
         What::TornHeader { left, of } => {
-            bolt(x, y, pen);
-            words(
-                pen,
-                "bolt-text",
-                11.0,
-                20.0,
-                &format!("cut in creating: {left} of {of} bytes left"),
-            );
+            cut(pen, &format!("cut in creating: {left} of {of} bytes left"));
         }
-        What::Wakes { kept, read, .. } => {
+        What::Wakes {
+            kept, read, again, ..
+        } => {
             pen.path("wake", x, y - 6.0, "l6 12 h-12 Z");
             words(
                 pen,
@@ -348,6 +337,7 @@ fn mark(sheet: &Sheet, moment: &Moment, pen: &mut Pen) {
                 -8.0,
                 &format!("keeps {kept} of {read} bytes"),
             );
+            outputs(x + 14.0, y, again, pen);
         }
         What::Full(room) => {
             let up = -sheet.band() - 2.0;
@@ -369,17 +359,20 @@ fn called(x: f64, y: f64, input: &Input, answer: &Answer, sheet: &Sheet, pen: &m
         pen.disc("ring", x, y - 15.0, 5.0);
         pen.path("ring", x, y - 18.0, "v3 h2.5");
     }
-    let outputs = match answer {
-        Answer::Accepted(outputs) => outputs,
-        Answer::Refused(2 | 3 | 8 | 10) => return pen.cross("refused", x, y, 3.5),
+    match answer {
+        Answer::Accepted(said) => outputs(x, y, said, pen),
+        Answer::Refused(2 | 3 | 8 | 10) => pen.cross("refused", x, y, 3.5),
         Answer::Refused(number) => {
             pen.cross("refused loud", x, y, 5.0);
             if !sheet.crowded() {
                 pen.words("loud middle", x, y + 18.0, &number.to_string());
             }
-            return;
         }
-    };
+    }
+}
+
+/// What is said, one beside the other, and the flag of what is settled.
+fn outputs(x: f64, y: f64, outputs: &[Output], pen: &mut Pen) {
     let mut place = x;
     for output in outputs {
         match output {

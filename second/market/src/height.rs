@@ -296,28 +296,22 @@ impl<'a> Height<'a> {
                 if let Some(event) = again.filter(|_| *number == 12) {
                     self.queue_at(self.now + ANOTHER_TRY, event);
                 }
-                self.tell(
-                    seat,
-                    What::Call {
-                        input,
-                        letter,
-                        answer,
-                    },
-                );
-                return Ok(());
+                Vec::new()
             }
-            Answer::Accepted(outputs) => outputs.clone(),
+            Answer::Accepted(outputs) => {
+                self.counts.accepted += 1;
+                self.vain_ticks = 0;
+                if let Some(lasts) = self.cut_due(seat, outputs) {
+                    return self.cut_in_call(seat, input, letter, outputs, lasts);
+                }
+                self.kiosk(seat).keep(Record {
+                    input,
+                    offer,
+                    outputs: outputs.clone(),
+                });
+                outputs.clone()
+            }
         };
-        self.counts.accepted += 1;
-        self.vain_ticks = 0;
-        if let Some(lasts) = self.cut_due(seat, &outputs) {
-            return self.cut_in_call(seat, input, letter, &outputs, lasts);
-        }
-        self.kiosk(seat).keep(Record {
-            input,
-            offer,
-            outputs: outputs.clone(),
-        });
         self.tell(
             seat,
             What::Call {
@@ -326,19 +320,19 @@ impl<'a> Height<'a> {
                 answer,
             },
         );
-        self.act_on(seat, &outputs);
+        self.act_on(seat, &outputs, false);
         Ok(())
     }
 
     /// Sends what is said, and sets the timers that are asked for.
-    fn act_on(&mut self, seat: usize, outputs: &[Output]) {
+    fn act_on(&mut self, seat: usize, outputs: &[Output], again: bool) {
         for output in outputs {
             match *output {
                 Output::Ask(timer, round) => self.set_timer(seat, timer, round),
                 Output::Settled(..) => (),
                 Output::Say(..) => {
                     let message = output.message(seat).expect("said");
-                    self.broadcast(seat, message, false);
+                    self.broadcast(seat, message, again);
                 }
             }
         }
@@ -549,6 +543,9 @@ impl<'a> Height<'a> {
         let woken = self.kiosk(seat).wake()?;
         self.vain_ticks = 0;
         self.counts.wakings += 1;
+        self.counts.said_again += woken.again.messages.len() as u64;
+        self.counts.asked_again += woken.again.timers.len() as u64;
+        let again = [woken.again.messages, woken.again.timers].concat();
         let round = self.kiosk(seat).round();
         self.tell(
             seat,
@@ -556,16 +553,13 @@ impl<'a> Height<'a> {
                 kept: woken.kept,
                 read: woken.read,
                 round,
+                again: again.clone(),
             },
         );
         if !self.kiosk(seat).started() {
             self.queue_at(self.now + 10, Event::Start(seat));
         }
-        if self.kiosk(seat).settled().is_none() {
-            for (timer, round) in self.kiosk(seat).timers() {
-                self.set_timer(seat, timer, round);
-            }
-        }
+        self.act_on(seat, &again, true);
         Ok(())
     }
 

@@ -4,7 +4,7 @@ use crate::checks::{self, Broken};
 use crate::node::{Node, Running};
 use crate::story::Story;
 use crate::words::{
-    entered, settled_in, Answer, Input, Kind, Listing, Message, Output, Record, Timer,
+    entered, settled_in, Again, Answer, Input, Kind, Listing, Message, Output, Record,
 };
 use std::fs::File;
 use std::path::{Path, PathBuf};
@@ -27,10 +27,11 @@ pub struct Kiosk {
     ticks: usize,
 }
 
-/// What waking finds: bytes kept and bytes that the cut had left.
+/// What waking finds: bytes kept, bytes that the cut had left, and what the node says again.
 pub struct Woken {
     pub kept: u64,
     pub read: u64,
+    pub again: Again,
 }
 
 /// The length of a group: 26 + 12k.
@@ -80,12 +81,14 @@ impl Kiosk {
         Ok(kiosk)
     }
 
-    fn run(&mut self) -> Result<(), Broken> {
-        let running = self.node.run(&self.journal)?;
+    /// Runs the node, which says first what is to be said again.
+    fn run(&mut self) -> Result<Again, Broken> {
+        let (running, again) = self.node.run(&self.journal)?;
+        checks::said_again(self.seat, &std::fs::read(&self.journal)?, &again)?;
         running.limit(self.limit)?;
         self.running = Some(running);
         self.life += 1;
-        Ok(())
+        Ok(again)
     }
 
     pub fn awake(&self) -> bool {
@@ -130,12 +133,13 @@ impl Kiosk {
         checks::remembered(self.seat, self.durable, &self.records, &listing)?;
         self.durable = listing.kept;
         self.records = listing.records;
-        self.run()?;
+        let again = self.run()?;
         let length = std::fs::metadata(&self.journal)?.len();
         checks::written(self.seat, self.durable, length)?;
         Ok(Woken {
             kept: listing.kept,
             read: listing.read,
+            again,
         })
     }
 
@@ -179,25 +183,6 @@ impl Kiosk {
             .iter()
             .rev()
             .find_map(|record| entered(&record.outputs))
-    }
-
-    /// The timers that were asked for in its round and have not rung yet.
-    pub fn timers(&self) -> Vec<(Timer, u8)> {
-        let rang = |timer, round| {
-            self.records
-                .iter()
-                .any(|record| record.input == Input::Ring(timer, round))
-        };
-        let mut timers = Vec::new();
-        for output in self.records.iter().flat_map(|record| &record.outputs) {
-            match *output {
-                Output::Ask(timer, round) if Some(round) == self.round() && !rang(timer, round) => {
-                    timers.push((timer, round))
-                }
-                _ => (),
-            }
-        }
-        timers
     }
 
     /// What it says again on its slow tick, from its journal. Running: its own messages of its round, the proposal that it heard
@@ -247,6 +232,7 @@ fn cut(journal: &Path, length: u64) -> std::io::Result<()> {
 #[cfg(test)]
 mod tests {
     use super::*;
+    use crate::words::Timer;
 
     /// A kiosk without power whose journal lists these calls.
     fn kiosk(calls: &str) -> Kiosk {
@@ -271,18 +257,6 @@ mod tests {
     const ROUND_1: &str = "5 timer-prevote 0 0 0 -1 0 9\nout precommit 0 0 -1\n\
                            6 precommit 1 0 0 -1 0 9\n7 precommit 2 0 0 -1 0 9\nout ask-precommit 0 0 -1\n\
                            8 timer-precommit 0 0 0 -1 0 9\nout ask-propose 1 0 -1\n";
-
-    #[test]
-    fn after_waking_the_timers_of_its_round_ring_that_have_not_rung() {
-        assert_eq!(kiosk("").timers(), []);
-        let early = kiosk(ROUND_0);
-        assert_eq!(early.timers(), [(Timer::Propose, 0), (Timer::Prevote, 0)]);
-        let later = kiosk(&format!("{ROUND_0}{ROUND_1}"));
-        assert_eq!(
-            (later.round(), later.timers()),
-            (Some(1), vec![(Timer::Propose, 1)])
-        );
-    }
 
     fn said(kiosk: &mut Kiosk) -> Vec<String> {
         kiosk.again().iter().map(Message::to_string).collect()

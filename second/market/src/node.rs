@@ -1,6 +1,6 @@
 //! The node program: its commands, a running one, and what the operating system does to it (kill, a limit on its file's size).
 
-use crate::words::{Answer, Output};
+use crate::words::{Again, Answer, Output};
 use std::fs::File;
 use std::io::{self, BufRead, BufReader, Read, Write};
 use std::os::fd::AsRawFd;
@@ -123,8 +123,8 @@ impl Node {
         self.say(self.command("list", journal))
     }
 
-    /// Runs it, and waits until it has opened its journal and cut the file: a line that is no input is answered only then.
-    pub fn run(&self, journal: &Path) -> io::Result<Running> {
+    /// Runs it, and waits until it has opened its journal and cut the file: it says only then what it says first.
+    pub fn run(&self, journal: &Path) -> io::Result<(Running, Again)> {
         let mut command = self.command("run-locked", journal);
         let mut child = command
             .stdin(Stdio::piped())
@@ -141,12 +141,22 @@ impl Node {
             output: BufReader::new(output),
             journal: journal.to_path_buf(),
         };
-        running.send("awake")?;
-        match running.line()?.as_str() {
-            "bad line 1" => Ok(running),
-            other => Err(running.trouble(&format!("does not open it: {other}"))),
-        }
+        let first = running.line()?;
+        let Some((messages, timers)) = first.strip_prefix("again ").and_then(two) else {
+            return Err(running.trouble(&format!("does not open it: {first}")));
+        };
+        let again = Again {
+            messages: running.outputs(messages)?,
+            timers: running.outputs(timers)?,
+        };
+        Ok((running, again))
     }
+}
+
+/// Two numbers with a blank between.
+fn two(text: &str) -> Option<(u8, u8)> {
+    let (one, other) = text.split_once(' ')?;
+    Some((one.parse().ok()?, other.parse().ok()?))
 }
 
 impl Running {
@@ -190,13 +200,18 @@ impl Running {
         let Some(count) = number("accepted ") else {
             return Err(self.trouble(&format!("answers `{line}` with `{first}`")));
         };
+        Ok(Answer::Accepted(self.outputs(count)?))
+    }
+
+    /// So many out lines.
+    fn outputs(&mut self, count: u8) -> io::Result<Vec<Output>> {
         let mut outputs = Vec::new();
         for _ in 0..count {
             let line = self.line()?;
             outputs
                 .push(Output::read(&line).ok_or_else(|| self.trouble(&format!("says `{line}`")))?);
         }
-        Ok(Answer::Accepted(outputs))
+        Ok(outputs)
     }
 
     /// From now on its files can grow to this length; None takes the limit away.

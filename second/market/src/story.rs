@@ -94,10 +94,11 @@ pub struct Wishes {
 pub const MOST_KIOSKS: usize = 32;
 
 /// The told stories, by name.
-pub const NAMES: [&str; 8] = [
+pub const NAMES: [&str; 9] = [
     "plain",
     "silent-proposer",
     "power-cut",
+    "unsent-vote",
     "two-faced-proposer",
     "left-behind",
     "full-partition",
@@ -302,6 +303,16 @@ impl Story {
                     kiosk: 2,
                     when: When::Says(Kind::Precommit),
                     lasts: 300,
+                });
+                story
+            }
+            "unsent-vote" => {
+                let mut story = Story::quiet(7, "A prevote that is written and not sent", 4);
+                story.breakers[3] = Some(Style::Silent);
+                story.cuts.push(Cut {
+                    kiosk: 2,
+                    when: When::Says(Kind::Prevote),
+                    lasts: 150,
                 });
                 story
             }

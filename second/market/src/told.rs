@@ -2,7 +2,7 @@
 
 use crate::radio::Letter;
 use crate::story::Time;
-use crate::words::{Answer, Input, Kind, Sheet};
+use crate::words::{Answer, Input, Kind, Output, Sheet};
 use std::fmt;
 
 /// One event, at one kiosk.
@@ -39,6 +39,8 @@ pub enum What {
         kept: u64,
         read: u64,
         round: Option<u8>,
+        /// What its node says again.
+        again: Vec<Output>,
     },
     Full(u64),
     Room,
@@ -103,15 +105,31 @@ impl fmt::Display for What {
             What::TornHeader { left, of } => {
                 write!(f, " LOSES POWER while its journal is created: {left} of the header's {of} bytes are in the file; created again")
             }
-            What::Wakes { kept, read, round } => {
+            What::Wakes {
+                kept,
+                read,
+                round,
+                again,
+            } => {
                 write!(
                     f,
                     " has power again and opens its journal: {kept} of {read} bytes kept, "
                 )?;
                 match round {
-                    Some(round) => write!(f, "in round {round}"),
-                    None => write!(f, "not started"),
+                    Some(round) => write!(f, "in round {round}")?,
+                    None => write!(f, "not started")?,
                 }
+                if again.is_empty() {
+                    return write!(f, "; nothing is to be said again");
+                }
+                let said = |output: &Output| match output {
+                    Output::Say(_, of, ..) if Some(*of) != *round => {
+                        format!("{output} in round {of}")
+                    }
+                    _ => output.to_string(),
+                };
+                let said: Vec<String> = again.iter().map(said).collect();
+                write!(f, "; again it {}", said.join(", "))
             }
             What::Full(room) => write!(f, "'s partition is FULL but for {room} bytes"),
             What::Room => write!(f, "'s partition has room again"),

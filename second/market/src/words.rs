@@ -53,6 +53,13 @@ pub enum Answer {
     Refused(u8),
 }
 
+/// What a run says first: messages to send again, and timers to start again.
+#[derive(Clone, Default, PartialEq, Eq, Debug)]
+pub struct Again {
+    pub messages: Vec<Output>,
+    pub timers: Vec<Output>,
+}
+
 /// A whole record of a journal: the input, its offer, the outputs.
 #[derive(Clone, PartialEq, Eq, Debug)]
 pub struct Record {

@@ -88,17 +88,21 @@ fn a_node_that_does_not_start_is_said() {
 fn a_node_that_sends_before_it_writes_is_caught() {
     let folder = Folder::new("liar");
     let program = folder.0.join("node");
-    let script = "#!/bin/sh\ncase $1 in\n\
-                  create) shift 4; echo created $((7 + 2 * $#)); : > /dev/null;;\n\
-                  run-locked) read line; echo bad line 1; while read line; do echo accepted 0; done;;\nesac\n";
-    std::fs::write(
-        &program,
-        script.replace(
-            "shift 4",
-            "file=$2; shift 4; head -c $((7 + 2 * $#)) /dev/zero > $file",
-        ),
-    )
-    .expect("a file");
+    let script = r#"#!/bin/sh
+byte() { printf "\\$(printf %03o $(($1 % 256)))"; }
+header() {
+    own=$1 height=$2
+    shift 2
+    byte $#
+    for power; do byte $power; byte $((power / 256)); done
+    byte 5; byte $own; byte $height; byte $((height / 256)); byte 0; byte 0
+}
+case $1 in
+create) file=$2; shift 2; header "$@" > "$file"; echo created $((3 + 2 * $#)) ;;
+run-locked) echo again 0 0; while read line; do echo accepted 0; done ;;
+esac
+"#;
+    std::fs::write(&program, script).expect("a file");
     std::fs::set_permissions(&program, PermissionsExt::from_mode(0o755)).expect("a program");
     let output = market(&[
         "--seed",

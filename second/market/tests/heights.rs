@@ -31,6 +31,8 @@ fn drawn_heights_settle_on_one_sheet() {
         sum.cuts_between,
         sum.part_left,
         sum.whole_left,
+        sum.said_again,
+        sum.asked_again,
         sum.lies,
         sum.lost,
         sum.repeated,

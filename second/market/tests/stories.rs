@@ -32,6 +32,13 @@ fn the_kept_stories_show_what_they_are_named_for() {
         ("silent-proposer", "says prevote for nil"),
         ("power-cut", "LOSES POWER in the middle of the call"),
         ("power-cut", "has power again and opens its journal"),
+        ("power-cut", "again it says prevote for sheet 101"),
+        ("unsent-vote", "38 of the group's 38 bytes are in the file"),
+        ("unsent-vote", "again it says prevote for sheet 101"),
+        (
+            "unsent-vote",
+            "hears prevote of 2, round 0, sheet 101: accepted",
+        ),
         ("two-faced-proposer", "BREAKS THE RULES: says proposal"),
         ("two-faced-proposer", "refused 9, heard otherwise"),
         ("left-behind", "kiosk 2 has not settled"),

@@ -53,14 +53,13 @@ impl From<Output> for Ended {
     }
 }
 
+fn spawned(command: &mut Command) -> Child {
+    command.stdin(Stdio::piped()).stdout(Stdio::piped()).stderr(Stdio::piped()).spawn().expect("a process")
+}
+
 /// The launcher with these words, and this on its standard input.
 pub fn told(command: &mut Command, input: &str) -> Ended {
-    let mut child = command
-        .stdin(Stdio::piped())
-        .stdout(Stdio::piped())
-        .stderr(Stdio::piped())
-        .spawn()
-        .expect("a process");
+    let mut child = spawned(command);
     // A run that is refused reads nothing.
     let _ = child.stdin.take().expect("its input").write_all(input.as_bytes());
     child.wait_with_output().expect("its end").into()
@@ -87,20 +86,19 @@ pub fn listing(file: &Path) -> Vec<String> {
 pub struct Run {
     pub child: Child,
     input: Option<ChildStdin>,
-    output: BufReader<ChildStdout>,
+    output: Option<BufReader<ChildStdout>>,
+    /// What it says before it is told anything, joined by `; `; nothing where it ends before.
+    pub first: Option<String>,
 }
 
 impl Run {
     pub fn of(command: &mut Command) -> Run {
-        let mut child = command
-            .stdin(Stdio::piped())
-            .stdout(Stdio::piped())
-            .stderr(Stdio::piped())
-            .spawn()
-            .expect("a process");
+        let mut child = spawned(command);
         let input = child.stdin.take();
-        let output = BufReader::new(child.stdout.take().expect("its output"));
-        Run { child, input, output }
+        let output = child.stdout.take().map(BufReader::new);
+        let mut run = Run { child, input, output, first: None };
+        run.first = run.answer();
+        run
     }
 
     pub fn new(file: &Path) -> Run {
@@ -115,20 +113,34 @@ impl Run {
     /// The next whole line of its output.
     pub fn line(&mut self) -> Option<String> {
         let mut line = String::new();
-        match self.output.read_line(&mut line) {
+        match self.output.as_mut().expect("an open output").read_line(&mut line) {
             Ok(n) if n > 0 && line.ends_with('\n') => Some(line.trim_end().to_string()),
             _ => None,
         }
     }
 
-    /// The answer to one line, joined by `; `.
-    pub fn put(&mut self, line: &str) -> String {
-        assert!(self.tell(&format!("{line}\n")), "the run has ended");
-        let first = self.line().expect("an answer");
-        let count = first.strip_prefix("accepted ").map_or(0, |k| k.parse().expect("a count"));
+    /// The next line, and as many out lines as its counts say, joined by `; `.
+    fn answer(&mut self) -> Option<String> {
+        let first = self.line()?;
+        let mut words = first.split(' ');
+        let count: usize = match words.next() {
+            Some("accepted" | "again") => words.map(|k| k.parse::<usize>().expect("a count")).sum(),
+            _ => 0,
+        };
         let mut all = vec![first];
         all.extend((0..count).map(|_| self.line().expect("an out line")));
-        all.join("; ")
+        Some(all.join("; "))
+    }
+
+    /// The answer to one line.
+    pub fn put(&mut self, line: &str) -> String {
+        assert!(self.tell(&format!("{line}\n")), "the run has ended");
+        self.answer().expect("an answer")
+    }
+
+    /// What it says from now on goes to nobody.
+    pub fn close_output(&mut self) {
+        drop(self.output.take());
     }
 
     /// No more lines; its status and what it wrote on standard error.

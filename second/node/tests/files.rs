@@ -1,7 +1,6 @@
 //! What happens to the file: cuts, kills, a full file system, failing calls.
 use node::*;
 use std::fs;
-use std::io::Read;
 use std::path::Path;
 use std::process::{Command, Stdio};
 use std::thread::sleep;
@@ -34,7 +33,11 @@ fn cut_at_every_byte() {
     for cut in before..=after {
         fs::write(&file, &whole[..cut]).unwrap();
         let again = node(&["run"], &file, &[], &format!("{SECOND}\n"));
-        let expected = if cut < after { "accepted 2\nout ask-prevote 0 0 -1\nout precommit 0 50 -1\n" } else { "refused 8\n" };
+        let expected = if cut < after {
+            "again 1 0\nout prevote 0 50 -1\naccepted 2\nout ask-prevote 0 0 -1\nout precommit 0 50 -1\n"
+        } else {
+            "again 2 0\nout prevote 0 50 -1\nout precommit 0 50 -1\nrefused 8\n"
+        };
         assert_eq!((again.out.as_str(), again.status), (expected, Some(0)), "cut at {cut}: {}", again.err);
         assert!(fs::read(&file).unwrap() == whole, "cut at {cut}");
     }
@@ -44,6 +47,50 @@ fn cut_at_every_byte() {
 fn in_order(few: &[String], all: &[String]) -> bool {
     let mut rest = all.iter();
     few.iter().all(|f| rest.any(|a| a == f))
+}
+
+#[test]
+fn says_it_again_after_a_kill() {
+    let folder = Folder::new();
+    let file = folder.path("j");
+    four(&file);
+    let prevoted = "out prevote 0 50 -1";
+    let precommitted = "out precommit 0 0 -1";
+    // Between the prevote and the precommit the prevote timer is open, and the propose timer is not any more; then the other way round.
+    for (lines, first, next) in [
+        (&[START][..], "again 0 0".into(), "out ask-propose 0 0 -1"),
+        (&[PROPOSED, "prevote 1 0 50 -1 0 9", "prevote 2 0 0 -1 0 9"], "again 0 1; out ask-propose 0 0 -1".into(), "out ask-prevote 0 0 -1"),
+        (&["timer-prevote 0 0 0 -1 0 9"], format!("again 1 1; {prevoted}; out ask-prevote 0 0 -1"), precommitted),
+        (&["precommit 1 0 0 -1 0 9", "precommit 2 0 0 -1 0 9"], format!("again 2 0; {prevoted}; {precommitted}"), "out ask-precommit 0 0 -1"),
+        (&["timer-precommit 0 0 0 -1 0 9"], format!("again 2 1; {prevoted}; {precommitted}; out ask-precommit 0 0 -1"), "out ask-propose 1 0 -1"),
+        (&["proposal 2 1 60 -1 1 9"], format!("again 2 1; {prevoted}; {precommitted}; out ask-propose 1 0 -1"), "out prevote 1 60 -1"),
+        (&[], format!("again 3 0; {prevoted}; {precommitted}; out prevote 1 60 -1"), ""),
+    ] {
+        let before = fs::read(&file).unwrap();
+        let mut run = Run::new(&file);
+        assert_eq!(run.first, Some(first));
+        assert!(fs::read(&file).unwrap() == before, "the journal is touched");
+        let answers: Vec<String> = lines.iter().map(|line| run.put(line)).collect();
+        assert!(answers.last().map_or("", String::as_str).ends_with(next), "{answers:?}");
+        run.child.kill().expect("kill -9");
+        run.end();
+    }
+}
+
+/// What a run says first, by the listing before it, its timers aside.
+fn own_again(all: &[String]) -> Vec<String> {
+    let outs: Vec<(&str, i32, &String)> = all
+        .iter()
+        .filter(|line| line.starts_with("out "))
+        .map(|line| {
+            let words: Vec<&str> = line.split(' ').collect();
+            (words[1], words[2].parse().expect("a round"), line)
+        })
+        .collect();
+    let entered = |out: &&(&str, i32, &String)| ["proposal", "ask-propose"].contains(&out.0);
+    let now = outs.iter().rev().find(entered).map_or(0, |out| out.1);
+    let said = |out: &&(&str, i32, &String)| ["proposal", "prevote", "precommit"].contains(&out.0) && [now - 1, now].contains(&out.1);
+    outs.iter().filter(said).map(|out| out.2.clone()).collect()
 }
 
 #[test]
@@ -60,7 +107,11 @@ fn killed_at_random_moments() {
     let (mut said, mut kills, mut answers) = (vec![], 0, 0);
     four(&file);
     while kills < 24 {
+        let own = own_again(&listing(&file));
         let mut run = Run::new(&file);
+        let again = run.first.clone().expect("what it says first");
+        assert!(again.starts_with(&format!("again {} ", own.len())), "{again}");
+        assert!(again.split("; ").skip(1).take(own.len()).eq(&own), "{again}, in the journal {own:?}");
         for i in (2..lines.len()).rev() {
             lines.swap(i, 1 + seed.below(i as u64) as usize);
         }
@@ -184,13 +235,23 @@ fn traced(words: &[&str], log: &Path) -> Option<Command> {
 }
 
 /// What a log of strace shows, in order: writes to the file, each fsync that answered 0, and answers on standard output.
-fn calls(log: &Path, answer: &str) -> Vec<&'static str> {
-    let said = format!("write(1, \"{answer}");
+#[derive(PartialEq, Debug)]
+enum Call {
+    /// The place of its first byte, and how many were written.
+    Wrote(usize, usize),
+    Synced,
+    Said,
+}
+
+fn calls(log: &Path, answers: &[&str]) -> Vec<Call> {
     let text = fs::read_to_string(log).unwrap();
     let call = |line: &str| match line.split_once(' ').map_or("", |(_, call)| call.trim_start()) {
-        c if c.starts_with("pwrite64(") => Some("pwrite"),
-        c if c.starts_with("fsync(") && c.ends_with("= 0") => Some("fsync"),
-        c if c.starts_with(&said) => Some("said"),
+        c if c.starts_with("pwrite64(") => {
+            let (asked, wrote) = c.rsplit_once(") = ")?;
+            Some(Call::Wrote(asked.rsplit_once(", ")?.1.parse().ok()?, wrote.parse().ok()?))
+        }
+        c if c.starts_with("fsync(") && c.ends_with("= 0") => Some(Call::Synced),
+        c if answers.iter().any(|answer| c.starts_with(&format!("write(1, \"{answer}"))) => Some(Call::Said),
         _ => None,
     };
     text.lines().filter_map(call).collect()
@@ -205,12 +266,49 @@ fn durable_before_it_is_said() {
     // The header, and then the folder that has the file's name; the answer goes to the launcher, which says it again.
     let made = told(command.arg("create").arg(&file).args(["0", "1", "1", "1", "1", "1"]), "");
     assert_eq!(made.out, "created 15\n", "{}", made.err);
-    assert_eq!(calls(&log, "created"), ["pwrite", "fsync", "fsync", "said", "said"]);
+    assert_eq!(calls(&log, &["created"]), [Call::Wrote(0, 15), Call::Synced, Call::Synced, Call::Said, Call::Said]);
     let mut run = Run::of(traced(&trace, &log).unwrap().arg("run").arg(&file));
     run.put(START);
     run.put(PROPOSED);
     run.end();
-    assert_eq!(calls(&log, "accepted"), ["fsync", "pwrite", "fsync", "said", "pwrite", "fsync", "said"]);
+    let record = |at| [Call::Wrote(at, 38), Call::Synced, Call::Said];
+    let all: Vec<Call> = [Call::Synced, Call::Said].into_iter().chain(record(15)).chain(record(53)).collect();
+    assert_eq!(calls(&log, &["again", "accepted"]), all);
+}
+
+/// A block of a disk, which is written wholly or not at all.
+const BLOCK: usize = 512;
+
+#[test]
+fn a_block_is_durable_before_the_next() {
+    let folder = Folder::new();
+    let (file, log) = (folder.path("j"), folder.path("log"));
+    four(&file);
+    let Some(mut command) = traced(&["-e", "trace=pwrite64,fsync,write"], &log) else { return };
+    let mut run = Run::of(command.arg("run").arg(&file));
+    run.put(START);
+    // One vote of each later round, each in a group of 26 bytes: one of them crosses a block.
+    for round in 1..16 {
+        for kind in ["prevote", "precommit"] {
+            assert_eq!(run.put(&format!("{kind} 1 {round} 5 -1 0 9")), "accepted 0");
+        }
+    }
+    run.end();
+    let all = calls(&log, &["accepted"]);
+    let (mut end, mut crossing) = (15, 0);
+    for (i, call) in all.iter().enumerate() {
+        let Call::Wrote(at, size) = *call else { continue };
+        assert_eq!(at, end, "not in byte order");
+        assert_eq!(at / BLOCK, (at + size - 1) / BLOCK, "a write crosses a block");
+        assert_eq!(all[i + 1], Call::Synced, "not durable before what follows");
+        end += size;
+        if all[i + 2] != Call::Said {
+            assert_eq!(end % BLOCK, 0, "a write that ends before its group and its block");
+            crossing += 1;
+        }
+    }
+    assert_eq!((end, crossing), (15 + 38 + 30 * 26, end / BLOCK));
+    ends_whole(&file);
 }
 
 #[test]
@@ -237,22 +335,40 @@ fn fsync_fails() {
 }
 
 #[test]
+fn cutting_fails() {
+    let folder = Folder::new();
+    let (file, log) = (folder.path("j"), folder.path("log"));
+    let (before, after) = two_prevotes(&file);
+    let whole = fs::read(&file).unwrap();
+    // A whole group more than the file may hold on disk: nothing of it is said again.
+    for (cut, call) in [(after, "fsync"), (before + 20, "fsync"), (before + 20, "ftruncate")] {
+        fs::write(&file, &whole[..cut]).unwrap();
+        let (trace, inject) = (format!("trace={call}"), format!("inject={call}:error=EIO:when=1"));
+        let Some(mut command) = traced(&["-e", &trace, "-e", &inject], &log) else { return };
+        let e = told(command.arg("run").arg(&file), &format!("{SECOND}\n"));
+        assert_eq!(e.out, "", "{call} fails, {cut} bytes");
+        assert!(!e.err.is_empty(), "{call} fails, {cut} bytes");
+    }
+}
+
+#[test]
 fn closed_output() {
     let folder = Folder::new();
     let file = folder.path("j");
     four(&file);
-    let mut run = Command::new(launcher()).arg("run").arg(&file).stdin(Stdio::piped()).stdout(Stdio::piped()).stderr(Stdio::piped()).spawn().unwrap();
-    drop(run.stdout.take());
-    use std::io::Write;
-    let mut input = run.stdin.take().unwrap();
-    let _ = input.write_all(format!("{START}\n{PROPOSED}\n").as_bytes());
-    let mut err = String::new();
-    run.stderr.take().unwrap().read_to_string(&mut err).unwrap();
-    run.wait().unwrap();
+    let mut run = Run::new(&file);
+    run.close_output();
+    run.tell(&format!("{START}\n{PROPOSED}\n"));
+    let (_, err) = run.end();
     // The record is durable and its answer unsent; the next line is not read any more.
     let last = node(&["last"], &file, &[], "");
     assert_eq!(last.out, "1 start 0 0 0 -1 0 9\nout ask-propose 0 0 -1\n", "{err}");
     ends_whole(&file);
+    // Where what is said first goes to nobody, no line is read.
+    let bytes = fs::read(&file).unwrap();
+    let deaf = "\"$0\" run \"$1\" > /dev/full";
+    told(Command::new("bash").arg("-c").arg(deaf).arg(launcher()).arg(&file), &format!("{PROPOSED}\n"));
+    assert!(fs::read(&file).unwrap() == bytes);
 }
 
 #[test]

@@ -11,6 +11,7 @@ fn lines_and_answers() {
     let file = folder.path("j");
     four(&file);
     let mut run = Run::new(&file);
+    assert_eq!(run.first.as_deref(), Some("again 0 0"));
     let longest = "x".repeat(1000);
     for (line, answer) in [
         ("proposal 1 0 50 -1 1 9", "refused 3"),
@@ -38,7 +39,7 @@ fn lines_and_answers() {
     assert_eq!(node(&["last"], &file, &[], "").out, "3 prevote 1 0 0 -1 0 9\n");
     // A last line without its end may be cut: it is no input.
     let cut = node(&["run"], &file, &[], "prevote 2 0 0 -1 0 9");
-    assert_eq!((cut.status, cut.out.as_str()), (Some(0), "bad line 1\n"));
+    assert_eq!((cut.status, cut.out.as_str()), (Some(0), "again 1 0\nout prevote 0 18446744073709551615 -1\nbad line 1\n"));
     assert_eq!(listing(&file).last().unwrap(), &format!("end {0} of {0}", fs::metadata(&file).unwrap().len()));
 }
 

@@ -1,5 +1,6 @@
 -- `node::serve::run_on` is safe: what is read is within the journal's most bytes. Assumes nothing.
 use native.Mathlib.Omega.{arith}
+use lib.ListN.{length-take}
 use borrow.Author.Needs.{needs}
 use Rattle.node.proofs.serve.run_on.Statement.{statement}
 use Rattle.node.proofs.serve.run_on.Tie as tie
@@ -19,17 +20,16 @@ returns c = search needs
 array-share-prefix-journal : tie.Need-array-share-prefix-journal
 array-share-prefix-journal c = search needs
 
-slice-aggregate-opened : tie.Need-slice-aggregate-opened
-slice-aggregate-opened c = search needs
+slice-aggregate-wake : tie.Need-slice-aggregate-wake
+slice-aggregate-wake c = search needs
 
-slice-aggregate-opened-2 : tie.Need-slice-aggregate-opened-2
-slice-aggregate-opened-2 c = search needs
-
-opened-requires : tie.Need-opened-requires
-opened-requires c κs = search needs
+wake-requires : tie.Need-wake-requires
+wake-requires c κs =
+    let l = c .before .before .before .before .before in
+    omega (arith, length-take (l .load .result .size) (l .load .last .1 .0), l .load .ensures)
 
 begin-requires : tie.Need-begin-requires
-begin-requires c κs = λ h. omega (arith, c .before .before .before .opened .ensures h, c .before .before .before .before .before .before .before .before .before .load .ensures)
+begin-requires c κs = search needs
 
 returns-2 : tie.Need-returns-2
 returns-2 c = search needs
@@ -49,9 +49,8 @@ run-on-spec =
     refused-requires
     returns
     array-share-prefix-journal
-    slice-aggregate-opened
-    slice-aggregate-opened-2
-    opened-requires
+    slice-aggregate-wake
+    wake-requires
     begin-requires
     returns-2
     fail-requires
