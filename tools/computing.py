@@ -213,7 +213,7 @@ class Computing:
 # The files of lists beside the definitions. What of them is not computed (statements) is passed over.
 class Lists(Specs):
     FILES = [
-        "roll/proofs/Examples", "rules/proofs/Whole", "rules/proofs/Stories", "journal/proofs/Journals", "listing/proofs/Texts",
+        "roll/proofs/Examples", "rules/proofs/Whole", "rules/proofs/Stories", "journal/proofs/Journals", "again/proofs/Cases", "listing/proofs/Texts",
         "examples/specs/Cases", "examples/specs/Whole", "examples/specs/Examples", "examples/specs/MadeUp", "examples/specs/Flat",
         "examples/specs/Fields", "examples/proofs/Told",
     ]
@@ -258,7 +258,7 @@ class Cases:
     def __init__(self):
         self.lists = Lists()
         self.computing = Computing(self.lists)
-        self.all = [*self.told(), *self.examples(), *self.made_up(), *self.stories(), *self.fields()]
+        self.all = [*self.told(), *self.examples(), *self.made_up(), *self.stories(), *self.again(), *self.fields()]
 
     def of(self, path, name):
         d = self.lists.files[path + ".antt"].definitions[name]
@@ -338,6 +338,16 @@ class Cases:
         for s in self.of("rules/proofs/Stories", "stories"):
             yield "stories", lambda s=s: leaves(s), (s["sends"], s["after"], s["table-after"])
 
+    def again(self):
+        wake, say, packed = self.of("again/specs/Again", "wake"), self.of("again/specs/Again", "say-again"), self.of("rules/specs/Sent", "packed")
+
+        def woken(w):
+            return {"answer": w["answer"], "kiosk": w["kiosk"], "messages": packed(w["messages"]), "timers": packed(w["timers"])}, w["table"]
+
+        for c in self.of("again/proofs/Cases", "cases"):
+            yield "again", lambda c=c: woken(wake(c["journal"], c["used"], c["table"])), (c["woken"], c["table-after"])
+            yield "again", lambda c=c: self.replied(say(c["journal"], c["used"], c["table"], c["area"]), "table", "area"), (c["reply"], c["table-after"], c["area-after"])
+
     def fields(self):
         kiosk_number, input_number, layout = (self.of("flat/specs/Fields", name) for name in ("kiosk-number", "input-number", "layout"))
         path = "examples/specs/Fields"
@@ -348,9 +358,11 @@ class Cases:
             yield "fields", lambda c=c: input_number(given, c["field"]), c["number"]
         for c in self.of(path, "layouts"):
             yield "fields", lambda c=c: layout(kiosk, c["from"]), c["reply"]
-        board_list = self.of("board/specs/Board", "board-list")
+        board_list, board_again = (self.of("board/specs/Board", name) for name in ("board-list", "board-again"))
         for c in self.of(path, "pages"):
             yield "fields", lambda c=c: board_list(c["journal"], c["text"]), {"page": c["page"], "text": c["text-after"]}
+        for c in self.of(path, "sayings"):
+            yield "fields", lambda c=c: board_again(c["journal"], c["used"], c["table"], c["area"]), {"reply": c["reply"], "table": c["table-after"], "said": c["area-after"]}
 
     # the lists hold of the definitions as they are
     def hold(self):

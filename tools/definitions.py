@@ -8,12 +8,13 @@ ROOT = Path(__file__).resolve().parent.parent
 CRATES = ROOT / "crates"
 
 # The crates that hold the definitions, and in them what a public promise is made of: these and what they mention are changed.
-DEFINING = "words roll rules journal refusals kiosk listing flat twins board".split()
+DEFINING = "words roll rules journal refusals kiosk again listing flat twins board".split()
 ROOTS = {
     "kiosk": "Says Opens Makes create put open-journal last-group",
+    "again": "Wakes wake Says-again say-again",
     "listing": "Prints printed listing",
     "flat": "kiosk-number input-number layout",
-    "board": "Creates board-create Opens board-open Says board-put last-part Lists board-list",
+    "board": "Creates board-create Opens board-open Says-again board-again Says board-put last-part Lists board-list",
 }
 
 # Fields are taken for each other where antt sees one type: a ℕ for any other. In a struct with more fields than this, only where the
@@ -199,12 +200,12 @@ def limits():
     return found
 
 
-# what a crate's code declares, with no code: its uses, its structs and enums and its names for arrays, with each limit as its number
+# what a crate's code declares, with no code: its uses of types, its structs and enums and its names for arrays, with each limit as its number
 def declarations(crate):
     known = limits()
     code = re.sub(r"; (\w+::\w+)\]", lambda m: f"; {known.get(m[1], m[1])}]", (CRATES / crate / "src" / "lib.rt").read_text())
     types = [m.group() for m in sorted([*DECLARED.finditer(code), *NAMED.finditer(code)], key=lambda m: m.start())]
-    return "\n".join(re.findall(r"^use [^\n]*", code, re.M) + types) + "\n"
+    return "\n".join(re.findall(r"^use \w+::[A-Z]\w*;", code, re.M) + types) + "\n"
 
 
 # All definitions. Structs, plain records and enums go by `crate.Name`: `fields` has each field's type as antt sees it, `widths` those

@@ -25,7 +25,7 @@ EQUIVALENT = ROOT / "tools" / "mutants.txt"
 LISTS_CRATE = "examples"
 USED = {"roll": ["Examples"], "rules": ["Whole", "Stories"], "journal": ["Journals"], "listing": ["Texts"], "examples": ["Each", "Kiosk", "ExamplesHold"]}
 FIRST = {"examples": ["Board", "Told", "ToldSo"]}
-OTHERS = {"rules": ["After"], "listing": ["AsText"], "examples": ["MadeUpSo", "FieldsSeen"]}
+OTHERS = {"rules": ["After"], "again": ["Cases"], "listing": ["AsText"], "examples": ["MadeUpSo", "FieldsSeen"]}
 
 # Names of the library that a change may bring into a file, with their modules; and which arguments of its functions are a ℕ.
 LIBRARY = {"ltb": "lib.Dec", "leb": "lib.Dec", **dict.fromkeys(["true", "false", "not", "_&&_", "_||_"], "mathlib.Core.Bool")}
