@@ -1,4 +1,5 @@
 -- When each rule applies, by what is asked in turn. Assumes nothing.
+use Rattle.std.specs.Bool.{if◌then◌else◌}
 use Prim.Native.Nat.{ℕ, pred, ◌+◌, ◌-◌, ◌≤◌}
 use mathlib.Core.Path.{◌≡◌, refl, sym, ap, ◌∙◌}
 use mathlib.Core.Bool.{Bool, true, false, not, ◌&&◌, ◌||◌, false≢true}
@@ -7,13 +8,12 @@ use native.Mathlib.Omega.{arith}
 use borrow.Author.Tests.{not-true, not-false, eq-eqb, ne_eqb, leb-true}
 use lib.Dec.{eqb, leb}
 use lib.ListN.{get_or}
-use Rattle.words.specs.Choice.{if◌then◌else◌, first_of}
+use Rattle.words.specs.Choice.{first_of}
 use Rattle.words.specs.Marks.{marked}
 use Rattle.words.proofs.Choice.{by_cases, and_left, and_right, and_false}
 use Rattle.roll.specs.Weighing.{large, power_below}
 use Rattle.rules.specs.declared.Votes.TheVariants.{Prevotes, Precommits}
 use Rattle.rules.specs.declared.Heard.{Heard}
-use Rattle.rules.specs.declared.Rule.{Rule}
 use Rattle.rules.specs.declared.Rule.TheVariants.{Line34, Line36, Line44}
 use Rattle.rules.specs.declared.Stand.{Stand}
 use Rattle.rules.specs.declared.State.{State}

@@ -1,4 +1,5 @@
 -- The rounds that rules 49 and 55 look for: which of them close, and which call. Assumes nothing.
+use Rattle.std.specs.Bool.{if◌then◌else◌}
 use Prim.Native.Nat.{ℕ, zero, suc, pred, ◌+◌, ◌-◌, ◌≤◌, ◌<◌}
 use mathlib.Core.Path.{◌≡◌, refl, subst}
 use mathlib.Core.List.{List}
@@ -9,7 +10,7 @@ use native.Mathlib.Omega.{arith}
 use borrow.Author.Tests.{lt-ltb, le-ltb, le-leb, eqb-true}
 use lib.Dec.{eqb, ltb}
 use lib.ListN.{get_or}
-use Rattle.words.specs.Choice.{if◌then◌else◌, lowest_below, past_highest_below, first_of}
+use Rattle.words.specs.Choice.{lowest_below, past_highest_below, first_of}
 use Rattle.words.proofs.Choice.{highest_none, and_left, and_right, and_false}
 use Rattle.words.proofs.MarkLaws.{marked_zero}
 use Rattle.roll.specs.Weighing.{some, total_of}

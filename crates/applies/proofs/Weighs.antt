@@ -1,5 +1,6 @@
 -- What the rules weigh is what the code weighs: the marks of a round that is heard, the names of its part of the table, and the marks of
 -- a round's votes joined with its proposer's. Assumes nothing.
+use Rattle.std.specs.Bool.{if◌then◌else◌}
 use Prim.Native.Nat.{ℕ, ◌+◌, ◌≤◌, ◌<◌}
 use native.Mathlib.Nat.{mod-lt}
 use native.Mathlib.Omega.{arith}
@@ -9,7 +10,6 @@ use mathlib.Core.List.{List}
 use lib.Bits.{bit_or}
 use lib.Dec.{eqb}
 use lib.ListN.{get_or}
-use Rattle.words.specs.Choice.{if◌then◌else◌}
 use Rattle.words.specs.Marks.{marked, mark}
 use Rattle.words.proofs.Choice.{by_cases}
 use Rattle.words.proofs.MarkLaws.{mark_seats, either_seats}

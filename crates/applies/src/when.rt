@@ -1,8 +1,7 @@
 // When each rule applies, and which is the first. What is cheap to ask is asked before anything is weighed, and the names of votes are
 // read only where the votes under any name are large.
-ghost use Rattle.std.specs.Prelude.{ℕ, ◌<◌, ◌≤◌, ◌≡◌, true, false, ◌&&◌, ◌||◌, not, List, eqb, leb, length};
+ghost use Rattle.std.specs.Prelude.{ℕ, ◌<◌, ◌≤◌, ◌≡◌, true, false, ◌&&◌, ◌||◌, not, List, eqb, leb, length, if◌then◌else◌};
 ghost use Rattle.std.specs.Int.Bits.{bit_or};
-ghost use Rattle.words.specs.Choice.{if◌then◌else◌};
 ghost use Rattle.words.specs.Marks.{mark};
 ghost use Rattle.roll.specs.Weighing.{most_kiosks, total_of};
 ghost use Rattle.rules.specs.State.{most_rounds, state_of, is_propose, is_prevote, spoken, good};

@@ -2,7 +2,7 @@
 -- Assumes nothing.
 use Prim.Native.Nat.{ℕ, pred}
 use mathlib.Core.Path.{◌≡◌, refl, ap, sym, subst, ◌∙◌}
-use mathlib.Core.Logic.{◌≢◌, ◌⊎◌, inl, inr, ⊎_elim}
+use mathlib.Core.Logic.{◌≢◌, inl, inr, ⊎_elim}
 use mathlib.Core.List.{List, [], ◌∷◌}
 use mathlib.Core.Bool.{Bool, true, false, ◌&&◌, ◌||◌, not, false≢true}
 use native.Mathlib.Omega.{arith}
@@ -497,7 +497,7 @@ module _ (m : Market) (g : Proposal) (opening moves : List Move) (test : List Ms
       open_still c (lit p cs) s u =
           false≢true (sym (not-true (is_settled p.kiosk.state.progress.phase) u) ∙ ap is_settled (c.holds i k p (with_power (written (roll_at m.powers m.height i) cs) (ap (board_of m i) s))).0)
 
--- To compute a tale: `unfolding the-tales` opens all that it takes.
+-- To compute a tale: `unfolding the_tales` opens all that it takes.
 unfoldable pub the_tales : Unit {0}
 unfolding the_stories same among next_scene run can passes aired brought each_vote unforged_test carries two_test three_test judged_test order_test arrive_test good_test closed_test
 the_tales = tt

@@ -1,5 +1,6 @@
 -- Messages in a good round: each that is accepted keeps a rule-keeping kiosk where it stands or takes it on, and is heard; what is refused
 -- of the round is heard already, or the kiosk has settled. Assumes nothing.
+use Rattle.std.specs.Bool.{if◌then◌else◌}
 use Prim.Native.Nat.{ℕ, ◌≤◌, ◌<◌}
 use mathlib.Core.Path.{◌≡◌, refl, sym, ap, subst, ◌∙◌}
 use mathlib.Core.Logic.{◌⊎◌, inl, inr, ⊎_elim}
@@ -8,7 +9,6 @@ use mathlib.Core.Bool.{Bool, true, false, ◌||◌, not, true≢false, false≢t
 use native.Mathlib.Omega.{arith}
 use lib.Dec.{eqb, leb}
 use borrow.Author.Tests.{eqb-true, eq-eqb, ne_eqb, le-leb, lt-leb}
-use Rattle.words.specs.Choice.{if◌then◌else◌}
 use Rattle.words.specs.Marks.{marked}
 use Rattle.words.proofs.Choice.{by_cases, and_false, or_case}
 use Rattle.roll.specs.declared.Roll.{Roll}

@@ -1,5 +1,6 @@
 -- What a history says of proposals and of own messages: a proposal held was made here or came from the round's proposer, what was proposed
 -- here is held, the own prevote is heard, and rule 36's mark is unset before the precommit step. Assumes nothing.
+use Rattle.std.specs.Bool.{if◌then◌else◌}
 use Prim.Native.Nat.{ℕ, ◌≤◌, ◌<◌}
 use mathlib.Core.Path.{◌≡◌, refl, sym, ap, subst, ◌∙◌}
 use mathlib.Core.Logic.{◌⊎◌, inl, inr, ⊎_elim}
@@ -10,7 +11,6 @@ use native.Mathlib.Decide.{ℕ_discrete}
 use lib.ListN.{length, get_or, length-replicate}
 use lib.Dec.{eqb}
 use borrow.Author.Tests.{eqb-true}
-use Rattle.words.specs.Choice.{if◌then◌else◌}
 use Rattle.words.specs.Marks.{marked}
 use Rattle.words.specs.Members.{In}
 use Rattle.words.proofs.Choice.{by_test, and_left, all_holds}

@@ -1,5 +1,6 @@
 -- A play as a table. A scene is what was told to each kiosk, what is on the radio and what was delivered; a move goes on with it. Whether
 -- moves can be made one after the other is computed, and where they can, there is a play, whatever may arrive. Assumes nothing.
+use Rattle.std.specs.Bool.{if◌then◌else◌}
 use Prim.Native.Nat.{ℕ, ◌+◌, ◌≤◌}
 use mathlib.Core.Path.{◌≡◌, refl, ap, sym, ◌∙◌}
 use mathlib.Core.Logic.{inl, inr}
@@ -10,7 +11,6 @@ use borrow.Author.Tests.{eq-eqb, ne_eqb, eqb-true, ltb-true, not-true}
 use lib.Dec.{eqb, ltb}
 use lib.ListN.{length, take, drop, get_or, replicate, length-append, length-replicate}
 use lib.Seq.{take_at, take-length, take-append-add}
-use Rattle.words.specs.Choice.{if◌then◌else◌}
 use Rattle.words.specs.Members.{In}
 use Rattle.words.proofs.Choice.{by_test, by_cases, and_left, and_right}
 use Rattle.roll.specs.declared.Roll.{Roll}
@@ -362,14 +362,14 @@ module _ (m : Market) where
         -- moves that pass are played
         pub moves_so : {s : Scene} → Plays s → (as' : List Move) → passes test as' s ≡ true → Plays (run as' s)
         unfolding passes run
-        moves_so r [] c = r
+        moves_so {s} r [] c = r
         moves_so {s} r (a ∷ as') c =
             let on_roll = ltb (mover a) (length m.powers) in
             let rule = m.keeps (mover a) in
             let first = and_left (on_roll && rule && can test a s) (passes test as' (next_scene a s)) c in
             let k = and_left (on_roll && rule) (can test a s) first in
             let next = one_move r a (ltb-true (mover a) (length m.powers) (and_left on_roll rule k), and_right on_roll rule k) (and_right (on_roll && rule) (can test a s) first) in
-            moves_so next as' (and_right (on_roll && rule && can test a s) (passes test as' (next_scene a s)) c)
+            moves_so {s = next_scene a s} next as' (and_right (on_roll && rule && can test a s) (passes test as' (next_scene a s)) c)
 
   -- what may arrive in the market, by demand 3 alone
   abbrev pub UnforgedNow : List Msg → List Delivery → ℕ → Input → Type 0

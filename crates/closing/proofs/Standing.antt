@@ -1,5 +1,6 @@
 -- Each rule that fires in a good round keeps the kiosk in it, or takes it on: from propose to prevote with the proposal's prevote, from
 -- there to precommit with its precommit, from there to settled. Assumes nothing.
+use Rattle.std.specs.Bool.{if◌then◌else◌}
 use Prim.Native.Nat.{ℕ, zero, suc, pred, ◌≤◌, ◌<◌}
 use mathlib.Core.Path.{◌≡◌, refl, sym, ap, subst, ◌∙◌}
 use mathlib.Core.Logic.{◌⊎◌, inl, inr, ⊎_elim}
@@ -8,7 +9,6 @@ use mathlib.Core.Bool.{Bool, true, false, ◌&&◌, ◌||◌, not, true≢false,
 use native.Mathlib.Omega.{arith}
 use lib.Dec.{eqb, ltb, leb}
 use borrow.Author.Tests.{eqb-true, eqb-false, eq-eqb, le-leb, ltb-true, ltb-false, not-true}
-use Rattle.words.specs.Choice.{if◌then◌else◌}
 use Rattle.words.specs.Marks.{marked}
 use Rattle.words.proofs.Choice.{by_test, by_cases, and_left, and_right, and_false, or_case, or_so, zero_one, first_passes, lowest_passes, highest_none}
 use Rattle.words.proofs.Members.{InLeft, InRight, InLast, first_in}

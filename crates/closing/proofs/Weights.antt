@@ -1,14 +1,15 @@
 -- What rule-breakers weigh: a set of them is never some, let alone large; all rule-keeping seats together are large. And what a round's
 -- closing sheet and votes weigh where nothing of the round changed. Assumes nothing.
-use Prim.Native.Nat.{ℕ, zero, suc, ◌+◌, ◌*◌, ◌<◌}
+use Rattle.std.specs.Bool.{if◌then◌else◌}
+use Prim.Native.Nat.{ℕ, zero, suc, ◌+◌, ◌*◌, ◌<◌, ◌≤◌}
 use mathlib.Core.Path.{◌≡◌, refl, ap, ◌∙◌}
 use mathlib.Core.List.{[], ◌∷◌}
 use mathlib.Core.Bool.{Bool, true, false, ◌&&◌, not}
 use native.Mathlib.Omega.{arith}
 use lib.ListN.{get_or}
 use lib.Dec.{eqb}
-use borrow.Author.Tests.{le-ltb, lt-ltb, ltb-true}
-use Rattle.words.specs.Choice.{if◌then◌else◌, first_of}
+use borrow.Author.Tests.{le-ltb, lt-ltb}
+use Rattle.words.specs.Choice.{first_of}
 use Rattle.words.specs.Marks.{marked}
 use Rattle.roll.specs.declared.Roll.{Roll}
 use Rattle.roll.specs.Weighing.{large, some, power_below, power_of, total_of}
@@ -22,14 +23,17 @@ use Rattle.agreement.specs.Weigh.{Seats}
 
 module _ (roll : Roll) (keeps : Seats) (few : 3 * power_of roll (λ i. not (keeps i)) < total_of roll) where
   module _ (f : ℕ → Bool) (breaks : (j : ℕ) → j < roll.kiosks → f j ≡ true → keeps j ≡ false) where
+    lighter : power_of roll f ≤ power_of roll (λ i. not (keeps i))
+    lighter = power_mono roll.powers f (λ i. not (keeps i)) roll.kiosks (λ j h t. rw (breaks j h t))
+
     small : 3 * power_of roll f < total_of roll
-    small = omega (arith, few, power_mono roll.powers f (λ i. not (keeps i)) roll.kiosks (λ j h t. rw (breaks j h t)))
+    small = omega (arith, few, lighter)
 
     pub not_some : some (total_of roll) (power_of roll f) ≡ false
-    not_some = le-ltb (total_of roll) (3 * power_of roll f) (omega (arith, small))
+    not_some = le-ltb (total_of roll) (3 * power_of roll f) (omega (arith, few, lighter))
 
     pub not_large : large (total_of roll) (power_of roll f) ≡ false
-    not_large = le-ltb (2 * total_of roll) (3 * power_of roll f) (omega (arith, small))
+    not_large = le-ltb (2 * total_of roll) (3 * power_of roll f) (omega (arith, few, lighter))
 
   -- the two parts of a roll
   seat_parts : (b : Bool) (p : ℕ) → (if true then p else 0) ≡ (if b then p else 0) + (if not b then p else 0)
@@ -47,9 +51,7 @@ module _ (roll : Roll) (keeps : Seats) (few : 3 * power_of roll (λ i. not (keep
 
   -- and so is every set that holds them
   pub holding_large : (f : ℕ → Bool) → ((j : ℕ) → j < roll.kiosks → keeps j ≡ true → f j ≡ true) → large (total_of roll) (power_of roll f) ≡ true
-  holding_large f all =
-      lt-ltb (2 * total_of roll) (3 * power_of roll f)
-      (omega (arith, ltb-true (2 * total_of roll) (3 * power_of roll keeps) keeping_large, power_mono roll.powers keeps f roll.kiosks all))
+  holding_large f all = lt-ltb (2 * total_of roll) (3 * power_of roll f) (omega (arith, few, parts roll.kiosks, power_mono roll.powers keeps f roll.kiosks all))
 
 -- the one sheet of a round's proposals, where it is good and passes the test
 pub sole_found : (b : Bool) (x : ℕ) (test : ℕ → Bool) → b ≡ true → test x ≡ true → first_of (if b then x ∷ [] else []) test ≡ x

@@ -1,1 +1,2 @@
 // A good round always closes: the statement in specs/ and its proof in proofs/.
+#![tactic(auto)]

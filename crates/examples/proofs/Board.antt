@@ -64,7 +64,7 @@ creatings_so = all_so creating_given creating_computed creating_so
 pub showings_so : (cs : List (Showing FlatKiosk ℕ FlatPart)) → map showing_given cs ≡ map showing_computed cs → All ShowingSo cs
 showings_so = all_so showing_given showing_computed showing_so
 
--- To compute with this file: `unfolding the-computed` opens the above.
+-- To compute with this file: `unfolding the_computed` opens the above.
 unfoldable pub the_computed : Unit {0}
 unfolding the_kiosk holds board_create board_open board_put last_part call_computed opening_computed creating_computed showing_computed
 the_computed = tt

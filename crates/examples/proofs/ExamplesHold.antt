@@ -35,7 +35,7 @@ telling_so t e = (
 pub tellings_so : (ts : List Telling) → map telling_given ts ≡ map telling_computed ts → All TellingSo ts
 tellings_so = all_so telling_given telling_computed telling_so
 
--- To compute with this file: `unfolding the-tellings` opens the above.
+-- To compute with this file: `unfolding the_tellings` opens the above.
 unfoldable pub the_tellings : Unit {0}
 unfolding the_computed told opened_by_four telling_computed
 the_tellings = tt

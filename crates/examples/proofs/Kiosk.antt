@@ -98,7 +98,7 @@ creatings_so = all_so creating_given creating_computed creating_so
 pub showings_so : (cs : List (Showing Kiosk (List ℕ) (List ℕ))) → map showing_given cs ≡ map showing_computed cs → All ShowingSo cs
 showings_so = all_so showing_given showing_computed showing_so
 
--- To compute with this file: `unfolding the-computed` opens the above.
+-- To compute with this file: `unfolding the_computed` opens the above.
 unfoldable pub the_computed : Unit {0}
 unfolding the_kiosk call_computed opening_computed creating_computed showing_computed
 the_computed = tt

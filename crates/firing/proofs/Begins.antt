@@ -1,13 +1,13 @@
 -- The beginning of a call's work: after the input, what firing relies on holds, and what firing leaves is what the call leaves.
 -- Assumes nothing.
-use Prim.Native.Nat.{ℕ, ◌-◌, ◌≤◌, ◌<◌}
+use Rattle.std.specs.Bool.{if◌then◌else◌}
+use Prim.Native.Nat.{ℕ, ◌≤◌, ◌<◌}
 use mathlib.Core.Path.{◌≡◌, refl, ap, sym, ◌∙◌, subst}
 use mathlib.Core.List.{List, []}
 use mathlib.Core.Bool.{Bool, true, false, ◌&&◌}
 use native.Mathlib.Omega.{arith}
 use lib.Dec.{eqb, leb}
 use lib.ListN.{length, get_or}
-use Rattle.words.specs.Choice.{if◌then◌else◌}
 use Rattle.roll.specs.declared.Roll.{Roll}
 use Rattle.rules.specs.declared.State.{State}
 use Rattle.rules.specs.declared.Progress.{Progress}
@@ -23,7 +23,7 @@ use Rattle.rules.specs.InContracts.Ready.{Ready, Readable, midway, so_far}
 use Rattle.rules.proofs.Sends.{sent_grows}
 use Rattle.firing.specs.declared.Act.{Act}
 use Rattle.firing.specs.InContracts.Acts.{done}
-use Rattle.firing.specs.InContracts.Trails.{trail_length, no_trail, written, undone, undone_to, own_message, message_of, lent, Writable, Puts, Firing, Leaves}
+use Rattle.firing.specs.InContracts.Trails.{trail_length, no_trail, undone, undone_to, own_message, message_of, lent, Writable, Puts, Firing, Leaves}
 use Rattle.firing.proofs.Keeping.{take_in_keeps}
 use Rattle.firing.proofs.Turns.{also, sent_after, Handed, handed, moved, message_is}
 

@@ -1,4 +1,5 @@
 -- A message in the lent log and table is a message that the desk hears, and the trail leads back past it. Assumes nothing.
+use Rattle.std.specs.Bool.{if◌then◌else◌}
 use Prim.Native.Nat.{ℕ, ◌+◌}
 use mathlib.Core.Path.{◌≡◌, refl, ap, ◌∙◌}
 use mathlib.Core.List.{List}
@@ -6,7 +7,6 @@ use mathlib.Core.Bool.{Bool, true, false}
 use native.Mathlib.Omega.{arith}
 use lib.ListN.{length, set, get_or, length-set}
 use borrow.Author.Tests.{ne_eqb}
-use Rattle.words.specs.Choice.{if◌then◌else◌}
 use Rattle.words.specs.Marks.{mark}
 use Rattle.roll.specs.declared.Roll.{Roll}
 use Rattle.rules.specs.declared.Votes.{Votes}
@@ -17,7 +17,7 @@ use Rattle.rules.specs.State.{state_of, marks_at, proposal_at, valid_at}
 use Rattle.rules.specs.Log.{Desk, proposal_place, votes_place, message, hear_proposal, hear_vote}
 use Rattle.rules.specs.InContracts.Ready.{midway}
 use Rattle.rules.proofs.Telling.{marks_is, tell_marks, tell_proposal}
-use Rattle.firing.specs.InContracts.Trails.{written, longer, own_message, lent, Writable, Puts}
+use Rattle.firing.specs.InContracts.Trails.{longer, own_message, lent, Writable, Puts}
 use Rattle.firing.proofs.Handover.{longer_written, undone_write}
 
 -- one place written, with the name that it held kept

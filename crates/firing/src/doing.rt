@@ -1,6 +1,5 @@
 // What a kiosk does: the acts of 003's lines, each with at most one output.
-ghost use Rattle.std.specs.Prelude.{◌<◌, ◌≤◌, ◌≡◌, true, false, ◌&&◌, ◌||◌, eqb, leb};
-ghost use Rattle.words.specs.Choice.{if◌then◌else◌};
+ghost use Rattle.std.specs.Prelude.{◌<◌, ◌≤◌, ◌≡◌, true, false, ◌&&◌, ◌||◌, eqb, leb, if◌then◌else◌};
 ghost use Rattle.rules.specs.State.{most_rounds, entered, in_phase, standing, locking, with_step, with_asked, good};
 ghost use Rattle.rules.specs.Doing.{asking, propose, vote, ask, start_round};
 ghost use Rattle.rules.specs.Rules.{fire_36, fire_49, fire};

@@ -1,7 +1,6 @@
 // The work of a call: the input, and then the rules until none applies. The outputs are kept in order, and the table's places that
 // are written are kept in a trail with the names that they held, so that a call refused for room leaves no trace.
-ghost use Rattle.std.specs.Prelude.{◌+◌, ◌<◌, ◌≤◌, ◌≡◌, true, length, get_or, set, []};
-ghost use Rattle.words.specs.Choice.{if◌then◌else◌};
+ghost use Rattle.std.specs.Prelude.{◌+◌, ◌<◌, ◌≤◌, ◌≡◌, true, length, get_or, set, [], if◌then◌else◌};
 ghost use Rattle.words.specs.Marks.{mark};
 ghost use Rattle.roll.specs.Weighing.{most_kiosks};
 ghost use Rattle.rules.specs.State.{most_rounds, log_length, state_of, proposal_at, valid_at};

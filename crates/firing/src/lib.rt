@@ -1,4 +1,6 @@
 // What each rule, start and each timer does, as one act; the work of a call: the rules fired in turn, with the way back.
+#![tactic(auto)]
+
 pub mod doing;
 pub mod fire;
 pub mod within;
@@ -6,7 +8,7 @@ pub mod within;
 use rules::{Output, Progress, Sent};
 
 // What a kiosk does at once: its votes after it, and at most one output. An own message among the outputs goes in the own log.
-#[derive(Drop)]
+#[derive(Clone, Copy)]
 pub struct Act {
     pub progress: Progress,
     pub sends: bool,
@@ -19,14 +21,14 @@ pub const TRAIL: usize = 15;
 pub type Trail = [u64; TRAIL];
 
 // The work of a call: the progress after it, and the outputs. The log, the table and the trail are in the lent arrays.
-#[derive(Drop)]
+#[derive(Clone, Copy)]
 pub struct Worked {
     pub progress: Progress,
     pub sent: Sent,
 }
 
 // The work of an input whose group fits: the progress after it, and the outputs. One whose group does not fit is taken back.
-#[derive(Drop)]
+#[derive(Clone, Copy)]
 pub struct Tried {
     pub fits: bool,
     pub progress: Progress,

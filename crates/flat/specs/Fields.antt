@@ -1,7 +1,6 @@
 -- The numbers of the flat twins by field, in the order of include/slipcoacher.h: for a caller to see that its compiler lays the structs
 -- as the library does. Assumes nothing.
-use Rattle.std.specs.Prelude.{ℕ, ◌+◌, List, [], ◌∷◌, get_or, ltb, eqb}
-use Rattle.words.specs.Choice.{if◌then◌else◌}
+use Rattle.std.specs.Prelude.{ℕ, ◌+◌, [], ◌∷◌, get_or, ltb, eqb, if◌then◌else◌}
 use Rattle.flat.specs.declared.FlatKiosk.{FlatKiosk}
 use Rattle.flat.specs.declared.FlatInput.{FlatInput}
 use Rattle.flat.specs.declared.FlatOutput.{FlatOutput}

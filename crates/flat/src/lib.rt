@@ -1,12 +1,14 @@
 // The flat structs that cross to C: plain numbers laid out as include/slipcoacher.h has them.
 // The log is an array of plain numbers already, and crosses as it is.
+#![tactic(auto)]
+
 pub mod fields;
 
 use roll::Roll;
 use rules::{Log, Sent};
 
 #[repr(C)]
-#[derive(Drop)]
+#[derive(Clone, Copy)]
 pub struct FlatKiosk {
     pub kiosks: usize,
     pub own: usize,
@@ -30,7 +32,7 @@ pub struct FlatKiosk {
 }
 
 #[repr(C)]
-#[derive(Drop)]
+#[derive(Clone, Copy)]
 pub struct FlatInput {
     pub name: u64,
     pub offer: u64,
@@ -43,7 +45,7 @@ pub struct FlatInput {
 }
 
 #[repr(C)]
-#[derive(Drop)]
+#[derive(Clone, Copy)]
 pub struct FlatOutput {
     pub name: u64,
     pub kind: u8,
@@ -52,7 +54,7 @@ pub struct FlatOutput {
 }
 
 #[repr(C)]
-#[derive(Drop)]
+#[derive(Clone, Copy)]
 pub struct FlatReply {
     pub number: u32,
     pub place: usize,
@@ -62,7 +64,7 @@ pub struct FlatReply {
 }
 
 #[repr(C)]
-#[derive(Drop)]
+#[derive(Clone, Copy)]
 pub struct FlatMade {
     pub number: u32,
     pub used: usize,
@@ -70,14 +72,14 @@ pub struct FlatMade {
 
 // A part of the lent journal.
 #[repr(C)]
-#[derive(Drop)]
+#[derive(Clone, Copy)]
 pub struct FlatPart {
     pub from: usize,
     pub count: usize,
 }
 
 #[repr(C)]
-#[derive(Drop)]
+#[derive(Clone, Copy)]
 pub struct FlatPage {
     pub number: u32,
     pub size: usize,

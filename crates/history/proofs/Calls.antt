@@ -1,5 +1,6 @@
 -- Laws of one call, for any reply that meets its promise: what a refusal leaves, when 12 is given, and what an accepted call leaves. State,
 -- table and journal are any: no history is assumed. Assumes nothing.
+use Rattle.std.specs.Bool.{if◌then◌else◌}
 use Prim.Native.Nat.{ℕ, suc, ◌+◌, ◌≤◌, ◌<◌}
 use mathlib.Core.Path.{◌≡◌, refl, ap, sym, ◌∙◌}
 use mathlib.Core.List.{List, [], ◌++◌}
@@ -10,7 +11,6 @@ use borrow.Author.Tests.{le-leb, lt-ltb, ltb-true, not-false}
 use lib.Dec.{eqb, ltb}
 use lib.ListN.{length, take}
 use lib.Seq.{length-take-le}
-use Rattle.words.specs.Choice.{if◌then◌else◌}
 use Rattle.words.specs.Bytes.{overwrite}
 use Rattle.words.proofs.Choice.{by_test}
 use Rattle.roll.specs.Weighing.{proposer}

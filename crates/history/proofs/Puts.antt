@@ -223,8 +223,8 @@ told_put (told_more {p} {q} {c} {cs} t w s later) j room =
 
 -- and what is put so, with names and offers of 64 bits, is a history
 pub put_told : {p q : Past} {j l : List ℕ} {is : List Input} → AllWide is → PutAll p j is q l → (cs : List Call) × Told p cs q × (map (λ (c : Call). c.input) cs ≡ is)
-put_told no_input put_none = ([], told_none, refl)
-put_told (one_input {i} {is} w ws) (put_more {p} {q} {j} {l} on later) =
+put_told {p} no_input put_none = ([], told_none, refl)
+put_told {p} {q} {j} {l} (one_input {i} {is} w ws) (put_more on later) =
     let x = put_accepts p i j on in
-    let r = put_told ws (rw x.gives at later) in
+    let r = put_told {p = record { kiosk = (accepted i (does p i) p.kiosk j).kiosk; table = (accepted i (does p i) p.kiosk j).table }} ws (rw x.gives at later) in
     (record { input = i; sent = (does p i).sent } ∷ r.0, told_more {c = record { input = i; sent = (does p i).sent }} x.taken w refl r.1, ap (λ (l : List Input). i ∷ l) r.2)

@@ -267,7 +267,7 @@ begun_left roll rounds l s left =
     omega arith
 
 -- In every state that opening, or accepted calls from there, give: the bytes used and those left are no more than the room for its rounds.
--- How many those are is said in one place, `rounds-of` (rules/specs/State), and 01's bytes for them in `roomy`, which `roomy-is` ties to it:
+-- How many those are is said in one place, `rounds_of` (rules/specs/State), and 01's bytes for them in `roomy`, which `roomy_is` ties to it:
 -- those two would vary
 record Rooms (roll : Roll) (p : Past) : Type 0 where
   ok : Roomy (desk p.kiosk.state p.table)

@@ -1,7 +1,6 @@
 -- How many bytes a journal can still take: the count behind "In an area of 1,811 + 834n bytes .. never refused for room". 01, "Journal".
 -- Assumes nothing.
-use Rattle.std.specs.Prelude.{ℕ, zero, suc, ◌+◌, ◌*◌, ◌-◌, List, ◌||◌, eqb}
-use Rattle.words.specs.Choice.{if◌then◌else◌}
+use Rattle.std.specs.Prelude.{ℕ, zero, suc, ◌+◌, ◌*◌, ◌-◌, List, ◌||◌, eqb, if◌then◌else◌}
 use Rattle.words.specs.Marks.{marked}
 use Rattle.roll.specs.declared.Roll.{Roll}
 use Rattle.rules.specs.declared.Heard.{Heard}

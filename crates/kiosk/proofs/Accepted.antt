@@ -1,5 +1,6 @@
 -- What an accepted input guarantees: refusal 1 has let the state in, the fields are within the rules, and the call has at most six
 -- outputs. Assumes nothing.
+use Rattle.std.specs.Bool.{if◌then◌else◌}
 use Prim.Native.Nat.{ℕ, suc, ◌≤◌, ◌<◌}
 use mathlib.Core.Path.{◌≡◌, refl, sym, ◌∙◌}
 use mathlib.Core.List.{List}
@@ -8,7 +9,7 @@ use native.Mathlib.Omega.{arith}
 use lib.ListN.{length}
 use lib.Dec.{eqb, ltb, leb}
 use borrow.Author.Tests.{not-true, not-false, ltb-true, leb-true, eqb-true, eqb-false, eq-eqb}
-use Rattle.words.specs.Choice.{if◌then◌else◌, all_below, all_zero}
+use Rattle.words.specs.Choice.{all_below, all_zero}
 use Rattle.words.proofs.Choice.{and_left, and_right}
 use Rattle.roll.specs.Weighing.{roll_fits, own_fits, proposer}
 use Rattle.roll.proofs.Weighing.{fits_count}

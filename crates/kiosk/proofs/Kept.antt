@@ -1,4 +1,5 @@
 -- What refusal 1 asks is kept: an accepted call leaves a state and a table that refusal 1 lets in. Assumes nothing.
+use Rattle.std.specs.Bool.{if◌then◌else◌}
 use Prim.Native.Nat.{ℕ, suc, ◌^◌, ◌≤◌, ◌<◌}
 use mathlib.Core.Path.{◌≡◌, refl, sym, ap, ◌∙◌}
 use mathlib.Core.List.{List, []}
@@ -9,7 +10,6 @@ use lib.Seq.{get_or-set_same, get_or-set_other}
 use lib.Dec.{ltb, leb, eqb}
 use lib.Pow.{pow_mono}
 use borrow.Author.Tests.{ltb-true, leb-true, eqb-true, eqb-false, not-true, lt-ltb, le-leb, eq-eqb, ne_eqb}
-use Rattle.words.specs.Choice.{if◌then◌else◌}
 use Rattle.words.specs.Marks.{mark}
 use Rattle.words.proofs.Choice.{by_test, by_cases, and_left, and_right, all_holds, all_so}
 use Rattle.words.proofs.MarkLaws.{mark_below}

@@ -1,12 +1,12 @@
 -- What an accepted input does before the rules, by its kind: start, a message of another seat that is not heard yet, or a timer that is
 -- due, which does a deed. So what these and each deed keep, a call keeps. Assumes nothing.
+use Rattle.std.specs.Bool.{if◌then◌else◌}
 use Prim.Native.Nat.{ℕ, suc, ◌≤◌, ◌<◌}
 use mathlib.Core.Path.{◌≡◌, refl, sym, ◌∙◌}
 use mathlib.Core.Bool.{Bool, true, false, ◌&&◌, ◌||◌, not, true≢false}
 use native.Mathlib.Omega.{arith}
 use lib.Dec.{eqb, leb}
 use borrow.Author.Tests.{eqb-true, eqb-false, leb-true, le-leb, not-true, not-false}
-use Rattle.words.specs.Choice.{if◌then◌else◌}
 use Rattle.words.specs.Marks.{marked}
 use Rattle.words.proofs.Choice.{by_test, and_left, and_right}
 use Rattle.roll.specs.Weighing.{proposer}

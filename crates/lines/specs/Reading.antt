@@ -1,7 +1,7 @@
 -- What a line of text reads as: an input, where it is exactly that input's words as the lister writes them. 01, "Whole listing".
 -- Assumes nothing.
-use Rattle.std.specs.Prelude.{ℕ, suc, ◌+◌, ◌*◌, ◌-◌, ◌≤◌, ◌≡◌, List, [], ◌∷◌, ◌++◌, Bool, true, false, ◌&&◌, leb, ltb, eqb}
-use Rattle.words.specs.Choice.{if◌then◌else◌, first_of}
+use Rattle.std.specs.Prelude.{ℕ, suc, ◌+◌, ◌*◌, ◌-◌, ◌≤◌, ◌≡◌, List, [], ◌∷◌, ◌++◌, Bool, true, false, ◌&&◌, leb, ltb, eqb, if◌then◌else◌}
+use Rattle.words.specs.Choice.{first_of}
 use Rattle.roll.specs.declared.Height.{Height}
 use Rattle.rules.specs.declared.Input.{Input}
 use Rattle.listing.specs.Text.{space, decimal, valid_round, input_word}
@@ -169,7 +169,7 @@ pub record Exact (reads : List ℕ → Height → Parsed) : Type 0 where
   -- any other is no input
   pub other : (line : List ℕ) (height : Height) → (reads line height).is_good ≡ false → reads line height ≡ no_input height
 
--- To compute with this file: `unfolding the-reading` opens the above.
+-- To compute with this file: `unfolding the_reading` opens the above.
 unfoldable pub the_reading : Unit {0}
 unfolding spaced first_word after_word same said_on number_word valid_word kind_of gathered parsed
 the_reading = tt

@@ -177,6 +177,7 @@ even_six = record { created = creates even 2 even_fits tall 1 (omega arith); fit
 not_settled : {r u v : ℕ} → In (settled r u) (other ∷ prevote 0 v ∷ []) → ⊥
 not_settled (inl e) = zero_one (cc)
 not_settled (inr (inl e)) = zero_one (cc)
+not_settled {r = r} {u = u} {v = v} (inr (inr x)) = elim x [ ]
 
 -- seat 0 prevotes 5, seat 1 prevotes 6, and no rule-keeping kiosk settles
 pub nobody_settles : (w : World even 2 but_two) × ToldBoth even w × PutOut even 2 but_two w 0 (prevote 0 5) × PutOut even 2 but_two w 1 (prevote 0 6) ×

@@ -1,5 +1,6 @@
 -- Steps of the market, for examples, by any step relation that holds the honest one: power on, calls, a call that power cuts, power
 -- off, a message sent; what may arrive; and what a kiosk put out. Assumes nothing.
+use Rattle.std.specs.Bool.{if◌then◌else◌}
 use Prim.Native.Nat.{ℕ, ◌+◌, ◌^◌, ◌≤◌, ◌<◌}
 use mathlib.Core.Path.{◌≡◌, refl, ap, sym, subst, ◌∙◌}
 use mathlib.Core.List.{List, [], ◌∷◌, ◌++◌, append_assoc, append-nil}
@@ -9,7 +10,7 @@ use borrow.Author.Tests.{eq-eqb, ne_eqb, ltb-true, lt-ltb, le-ltb}
 use lib.Dec.{eqb, ltb}
 use lib.ListN.{length, take, replicate, length-append, length-replicate}
 use lib.Seq.{take_at, take-length, take-append-add}
-use Rattle.words.specs.Choice.{if◌then◌else◌, the_choices}
+use Rattle.words.specs.Choice.{the_choices}
 use Rattle.words.specs.Bytes.{in_order, overwrite}
 use Rattle.words.specs.Members.{In}
 use Rattle.words.proofs.Choice.{and_left, and_right, zero_one}
@@ -32,7 +33,6 @@ use Rattle.kiosk.specs.Judged.{the_judged}
 use Rattle.kiosk.specs.Calls.{Called, Created}
 use Rattle.kiosk.specs.Calls as calls
 use Rattle.kiosk.specs.Opening.{Opened, failed, open_journal}
-use Rattle.kiosk.specs.Opening as openings
 use Rattle.history.specs.Histories.{Call, call_bytes, Past, does, after, takes, Wide, AllWide, no_input, one_input, Creates, History, beginning, written, Tail, none, records, sent_in, all_taken, calls_of, leaves, the_histories}
 use Rattle.history.proofs.Finding.{part_tail}
 use Rattle.history.proofs.Openings.{opens_short, history_used, created_length}
@@ -75,7 +75,7 @@ pub record Story (roll : Roll) (is : List Input) (os : List Out) : Type 0 where
   pub taken : all_taken (beginning roll) is ≡ true
   pub sent : acts (sent_in (calls_of (beginning roll) is)) ≡ os
 
--- To compute a story: `unfolding the-stories` opens all that it takes.
+-- To compute a story: `unfolding the_stories` opens all that it takes.
 unfoldable pub the_stories : Unit {0}
 unfolding narrow the_choices the_weighing the_log the_doing the_rules the_work the_possible the_refusals the_judged the_histories
 the_stories = tt

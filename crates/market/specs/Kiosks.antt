@@ -1,7 +1,6 @@
 -- A kiosk with its journal as the market takes it: creating, opening and putting, each by the promise that its code is proved to meet. The
 -- area that is lent may be another at each call, and hold anything after the file. Assumes nothing.
-use Rattle.std.specs.Prelude.{ℕ, ◌≡◌, List, length, take, eqb}
-use Rattle.words.specs.Choice.{if◌then◌else◌}
+use Rattle.std.specs.Prelude.{ℕ, ◌≡◌, List, length, take, eqb, if◌then◌else◌}
 use Rattle.rules.specs.declared.Input.{Input}
 use Rattle.rules.specs.Log.{table_length}
 use Rattle.refusals.specs.declared.Answer.{Answer}

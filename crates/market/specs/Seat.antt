@@ -1,7 +1,6 @@
 -- A kiosk of the rules as agreement sees it: its outputs, where it stands and what it is locked on, and the message that an input brings.
 -- Assumes nothing.
-use Rattle.std.specs.Prelude.{ℕ, ◌≡◌, List, [], ◌∷◌, true, ◌||◌, eqb}
-use Rattle.words.specs.Choice.{if◌then◌else◌}
+use Rattle.std.specs.Prelude.{ℕ, ◌≡◌, List, [], ◌∷◌, true, ◌||◌, eqb, if◌then◌else◌}
 use Rattle.rules.specs.declared.Step.{Step}
 use Rattle.rules.specs.declared.Step.TheVariants.{Propose, Prevote, Precommit}
 use Rattle.rules.specs.declared.Input.{Input}

@@ -1,4 +1,5 @@
 -- Laws of the judging of a call: what is asked in turn, each answer by the first test that gives it. Assumes nothing.
+use Rattle.std.specs.Bool.{if◌then◌else◌}
 use Prim.Native.Nat.{ℕ, zero, suc, ◌+◌, ◌*◌, ◌%◌, ◌^◌, ◌≤◌, ◌<◌}
 use mathlib.Core.Path.{◌≡◌, refl, sym, ◌∙◌}
 use mathlib.Core.Bool.{Bool, true, false, not, ◌&&◌, ◌||◌, false≢true, beq, and_assoc, and-true}
@@ -11,7 +12,7 @@ use lib.Dec.{ltb, leb, eqb}
 use lib.ListN.{length, drop, get_or, drop_of_length-le}
 use lib.Pow.{pow_mono}
 use lib.Seq.{drop-cons}
-use Rattle.words.specs.Choice.{if◌then◌else◌, all_below, all_zero}
+use Rattle.words.specs.Choice.{all_below, all_zero}
 use Rattle.words.proofs.Choice.{by_cases, and_left, and_right}
 use Rattle.roll.specs.declared.Roll.{Roll}
 use Rattle.roll.specs.Weighing.{roll_fits, own_fits, proposer}

@@ -1,6 +1,6 @@
 -- Refusal 1, "state, table or used length impossible", but for the used length. 01, "Refusal 1 is given when". Assumes nothing.
-use Rattle.std.specs.Prelude.{ℕ, suc, ◌^◌, Bool, ◌&&◌, ◌||◌, not, length, ltb, leb, eqb}
-use Rattle.words.specs.Choice.{if◌then◌else◌, all_below, all_zero}
+use Rattle.std.specs.Prelude.{ℕ, suc, ◌^◌, Bool, ◌&&◌, ◌||◌, not, length, ltb, leb, eqb, if◌then◌else◌}
+use Rattle.words.specs.Choice.{all_below, all_zero}
 use Rattle.roll.specs.Weighing.{roll_fits, own_fits}
 use Rattle.rules.specs.declared.Held.{Held}
 use Rattle.rules.specs.State.{is_fresh, settled_round, unheard, spoken}
@@ -47,7 +47,7 @@ desk_fits d =
     held_fits (current d) d.state.progress.valid &&
     at_rest d
 
--- To compute with this file: `unfolding the-possible` opens the above.
+-- To compute with this file: `unfolding the_possible` opens the above.
 unfoldable pub the_possible : Unit {0}
 unfolding round_fits fresh_fits at_rest desk_fits
 the_possible = tt

@@ -1,7 +1,6 @@
 -- The refusals 2 to 11 of a call, "Checked in this order; the first that applies is given". 01, "Inputs and outputs" and "What is
 -- refused". Assumes nothing.
-use Rattle.std.specs.Prelude.{ℕ, suc, Bool, false, ◌&&◌, ◌||◌, not, ltb, leb, eqb}
-use Rattle.words.specs.Choice.{if◌then◌else◌}
+use Rattle.std.specs.Prelude.{ℕ, suc, Bool, false, ◌&&◌, ◌||◌, not, ltb, leb, eqb, if◌then◌else◌}
 use Rattle.words.specs.Marks.{marked}
 use Rattle.roll.specs.Weighing.{proposer}
 use Rattle.rules.specs.declared.Votes.TheVariants.{Prevotes, Precommits}
@@ -107,7 +106,7 @@ refused_input d i =
     else if not (fields_fit d.state.roll.kiosks d.rounds i) then BadField
     else refused_from_6 d i
 
--- To compute with this file: `unfolding the-refusals` opens the above.
+-- To compute with this file: `unfolding the_refusals` opens the above.
 unfoldable pub the_refusals : Unit {0}
 unfolding proposal_fits vote_fits timer_fits start_fits kind_fits fields_fit place_heard same_heard timer_due refused_from_6 refused_input
 the_refusals = tt

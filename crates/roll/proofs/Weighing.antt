@@ -1,4 +1,5 @@
 -- Laws of weighing, over any test of the seats. Assumes nothing.
+use Rattle.std.specs.Bool.{if◌then◌else◌}
 use Prim.Native.Nat.{ℕ, zero, suc, ◌+◌, ◌*◌, ◌-◌, ◌≤◌, ◌<◌}
 use mathlib.Core.Path.{◌≡◌, refl, ap, ◌∙◌}
 use mathlib.Core.Bool.{Bool, true, false, ◌&&◌, ◌||◌, false≢true}
@@ -8,7 +9,7 @@ use native.Mathlib.Omega.{arith}
 use borrow.Author.Tests.{eqb-true, eq-eqb, ne_eqb, ltb-false, le-ltb, le-leb, lt-leb, leb-true}
 use lib.Dec.{eqb, leb}
 use lib.ListN.{get_or, drop, replicate}
-use Rattle.words.specs.Choice.{if◌then◌else◌, all_below}
+use Rattle.words.specs.Choice.{all_below}
 use Rattle.words.specs.Marks.{marked, mark}
 use Rattle.words.proofs.Choice.{and_left, and_right}
 use Rattle.words.proofs.MarkLaws.{mark_seats}

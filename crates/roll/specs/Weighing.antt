@@ -1,8 +1,8 @@
 -- Powers: the total, "large" and "some", whose turn a round is, and what a roll may be. 01, "Weighing", "Numbers" and the house rule on
 -- the proposer. Assumes nothing.
-use Rattle.std.specs.Prelude.{ℕ, zero, suc, ◌+◌, ◌*◌, ◌-◌, ◌%◌, Bool, true, ◌&&◌, List, ◌++◌, get_or, length, replicate, ltb, leb, eqb}
+use Rattle.std.specs.Prelude.{ℕ, zero, suc, ◌+◌, ◌*◌, ◌-◌, ◌%◌, Bool, true, ◌&&◌, List, ◌++◌, get_or, length, replicate, ltb, leb, eqb, if◌then◌else◌}
 use Rattle.roll.specs.declared.Roll.{Roll}
-use Rattle.words.specs.Choice.{if◌then◌else◌, all_below}
+use Rattle.words.specs.Choice.{all_below}
 use Rattle.words.specs.Marks.{marked}
 
 -- "a set with power P is large when 3P > 2T and some when 3P > T"
@@ -64,7 +64,7 @@ roll_with powers own height = record {
   height = record { 0 = height };
 }
 
--- To compute with this file: `unfolding the-weighing` opens the above.
+-- To compute with this file: `unfolding the_weighing` opens the above.
 unfoldable pub the_weighing : Unit {0}
 unfolding power_below roll_fits
 the_weighing = tt

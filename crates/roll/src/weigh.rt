@@ -1,6 +1,6 @@
 // Weighing: what sets of seats weigh, when that is "large" and "some", whose turn a round is, and what a roll may be.
-ghost use Rattle.std.specs.Prelude.{ℕ, ◌+◌, ◌<◌, ◌≤◌, ◌≡◌, ◌&&◌, eqb, leb, length, get_or};
-ghost use Rattle.words.specs.Choice.{if◌then◌else◌, all_below};
+ghost use Rattle.std.specs.Prelude.{ℕ, ◌+◌, ◌<◌, ◌≤◌, ◌≡◌, ◌&&◌, eqb, leb, length, get_or, if◌then◌else◌};
+ghost use Rattle.words.specs.Choice.{all_below};
 ghost use Rattle.words.specs.Marks.{marked};
 ghost use Rattle.roll.specs.Weighing.{large, some, power_below, total_of, proposer, names, most_kiosks, most_power, roll_fits, own_fits, roll_with};
 

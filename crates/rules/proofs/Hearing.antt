@@ -1,4 +1,5 @@
 -- What a message leaves in the log and the table: its own place, and no other. One law for both types of vote. Assumes nothing.
+use Rattle.std.specs.Bool.{if◌then◌else◌}
 use Prim.Native.Nat.{ℕ, ◌<◌}
 use mathlib.Core.Path.{◌≡◌, refl, sym, ap, ◌∙◌}
 use mathlib.Core.Logic.{◌⊎◌, inl, inr, ⊎_elim}
@@ -10,7 +11,6 @@ use lib.ListN.{length, get_or, set}
 use lib.Seq.{get_or-set_same, get_or-set_other}
 use lib.Dec.{eqb}
 use borrow.Author.Tests.{eqb-true, eq-eqb}
-use Rattle.words.specs.Choice.{if◌then◌else◌}
 use Rattle.words.specs.Marks.{marked, mark}
 use Rattle.words.proofs.Choice.{by_cases, or_case, or_so}
 use Rattle.words.proofs.MarkLaws.{marked_zero, mark_seats}

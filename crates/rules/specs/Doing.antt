@@ -1,7 +1,6 @@
 -- What a kiosk does on its own: sends, asks for timers, proposes, votes, enters a round. 003, lines 11 to 21 and the `broadcast` and
 -- `schedule` lines, with 01's house rules. Assumes nothing.
-use Rattle.std.specs.Prelude.{ℕ, [], ◌∷◌, ◌++◌, Bool, true, ◌&&◌, not, eqb}
-use Rattle.words.specs.Choice.{if◌then◌else◌}
+use Rattle.std.specs.Prelude.{ℕ, [], ◌∷◌, ◌++◌, true, ◌&&◌, not, eqb, if◌then◌else◌}
 use Rattle.roll.specs.Weighing.{proposer}
 use Rattle.rules.specs.declared.Step.{Step}
 use Rattle.rules.specs.declared.Step.TheVariants.{Propose, Prevote, Precommit}
@@ -74,7 +73,7 @@ start_round offer r d =
     let sheet = sheet_to_propose offer d in
     if eqb (proposer d.state.roll r) (own d) && not (eqb sheet 0) then propose d.state.progress.valid.next.0 sheet e else ask Propose e
 
--- To compute with this file: `unfolding the-doing` opens the above.
+-- To compute with this file: `unfolding the_doing` opens the above.
 unfoldable pub the_doing : Unit {0}
 unfolding ask propose vote start_round
 the_doing = tt

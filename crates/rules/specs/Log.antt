@@ -1,7 +1,6 @@
 -- The log: what a kiosk has heard, in the marks of its state and the names of the lent table; a message put in it; and what it weighs.
 -- 01, "Lent table and state", "Weighing", and the house rules on own messages and on rule 55. Assumes nothing.
-use Rattle.std.specs.Prelude.{ℕ, ◌+◌, ◌*◌, List, [], ◌∷◌, Bool, ◌&&◌, ◌||◌, get_or, set, replicate, eqb}
-use Rattle.words.specs.Choice.{if◌then◌else◌}
+use Rattle.std.specs.Prelude.{ℕ, ◌+◌, ◌*◌, List, [], ◌∷◌, Bool, ◌&&◌, ◌||◌, get_or, set, replicate, eqb, if◌then◌else◌}
 use Rattle.words.specs.Marks.{marked, mark}
 use Rattle.roll.specs.Weighing.{power_of, proposer}
 use Rattle.rules.specs.declared.Votes.{Votes}
@@ -124,7 +123,7 @@ message_power d r =
     let turn = proposer d.state.roll r in
     power_of d.state.roll (λ i. (spoken h && eqb turn i) || marked h.prevotes i || marked h.precommits i)
 
--- To compute with this file: `unfolding the-log` opens the above.
+-- To compute with this file: `unfolding the_log` opens the above.
 unfoldable pub the_log : Unit {0}
 unfolding told tell good_sheets hear_proposal hear_vote message power power_for message_power
 the_log = tt

@@ -1,7 +1,7 @@
 -- The eight rules of Algorithm 1, by 003's line numbers: when each applies, which is the first, and what it does. "2f+1 is read as
 -- large, f+1 as some." Assumes nothing.
-use Rattle.std.specs.Prelude.{ℕ, pred, Bool, true, false, ◌&&◌, ◌||◌, not, ltb, leb, eqb}
-use Rattle.words.specs.Choice.{if◌then◌else◌, lowest_below, past_highest_below, first_of}
+use Rattle.std.specs.Prelude.{ℕ, pred, Bool, true, false, ◌&&◌, ◌||◌, not, ltb, leb, eqb, if◌then◌else◌}
+use Rattle.words.specs.Choice.{lowest_below, past_highest_below, first_of}
 use Rattle.roll.specs.Weighing.{large, some, total_of}
 use Rattle.rules.specs.declared.Phase.TheVariants.{Settled}
 use Rattle.rules.specs.declared.Step.TheVariants.{Prevote, Precommit}
@@ -154,7 +154,7 @@ fire Line47 offer d = ask Precommit d
 fire (Line49 r name) offer d = fire_49 r.0 name d
 fire (Line55 r) offer d = start_round offer r.0 d
 
--- To compute with this file: `unfolding the-rules` opens the above.
+-- To compute with this file: `unfolding the_rules` opens the above.
 unfoldable pub the_rules : Unit {0}
 unfolding applies_22 applies_28 applies_34 backed_sheet applies_36 applies_44 applies_47 closing_sheet closing_round applies_49 calls past_calling_round applies_55 from_49 from_47 from_34 first_rule vote_22 vote_28 fire_36 fire_49 fire
 the_rules = tt

@@ -1,6 +1,5 @@
 // Questions on the enums, what each stands for, and choice.
-ghost use Rattle.std.specs.Prelude.{◌≡◌};
-ghost use Rattle.words.specs.Choice.{if◌then◌else◌};
+ghost use Rattle.std.specs.Prelude.{◌≡◌, if◌then◌else◌};
 ghost use Rattle.rules.specs.State.{is_fresh, is_running, is_settled, settled_round, is_propose, is_prevote};
 ghost use Rattle.rules.specs.Kinds.{vote_out, ask_out};
 ghost use Rattle.rules.specs.Doing.{step_of};

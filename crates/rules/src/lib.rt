@@ -1,11 +1,13 @@
 // Algorithm 1 of 003: the voting state, and what goes in and out of it.
+#![tactic(auto)]
+
 pub mod enums;
 pub mod outputs;
 pub mod places;
 
 use roll::{Height, PlusOne, Power, Roll, Round};
 
-#[derive(Drop)]
+#[derive(Clone, Copy)]
 pub enum Phase {
     // Not started yet.
     Fresh,
@@ -14,7 +16,7 @@ pub enum Phase {
     Settled(Round),
 }
 
-#[derive(Drop)]
+#[derive(Clone, Copy)]
 pub enum Step {
     Propose,
     Prevote,
@@ -22,14 +24,14 @@ pub enum Step {
 }
 
 // The two types of vote.
-#[derive(Drop)]
+#[derive(Clone, Copy)]
 pub enum Votes {
     Prevotes,
     Precommits,
 }
 
 // The timers asked for in the current round. `prevote` and `precommit` are also the "first time" marks of rules 34 and 47.
-#[derive(Drop)]
+#[derive(Clone, Copy)]
 pub struct Asked {
     pub propose: bool,
     pub prevote: bool,
@@ -37,7 +39,7 @@ pub struct Asked {
 }
 
 // Where the kiosk stands in its current round. `backed`: rule 36 has fired in it.
-#[derive(Drop)]
+#[derive(Clone, Copy)]
 pub struct Stand {
     pub round: Round,
     pub step: Step,
@@ -46,7 +48,7 @@ pub struct Stand {
 }
 
 // A locked or a valid sheet: its round plus one and its name (0: none).
-#[derive(Drop)]
+#[derive(Clone, Copy)]
 pub struct Held {
     pub next: PlusOne,
     pub name: u64,
@@ -54,7 +56,7 @@ pub struct Held {
 
 // What is heard of a round, names aside (the lent table has those): a mark for each seat whose prevote, and whose precommit, is
 // heard; the proposal (0: none is heard, 1: one with verdict 0, more: one with verdict 1) and its valid round plus one.
-#[derive(Drop)]
+#[derive(Clone, Copy)]
 pub struct Heard {
     pub prevotes: u32,
     pub precommits: u32,
@@ -63,7 +65,7 @@ pub struct Heard {
 }
 
 // What a kiosk holds of its height: where it stands, and its locked and its valid sheet.
-#[derive(Drop)]
+#[derive(Clone, Copy)]
 pub struct Progress {
     pub phase: Phase,
     pub stand: Stand,
@@ -75,7 +77,7 @@ pub struct Progress {
 pub type Log = [u32; State::LOG];
 
 // The voting state of a kiosk, in the parts that the steps of a call hand on: the log is lent to them.
-#[derive(Drop)]
+#[derive(Clone, Copy)]
 pub struct State {
     pub roll: Roll,
     pub progress: Progress,
@@ -99,7 +101,7 @@ impl State {
 }
 
 // What a call does not change: the roll, its total power, and the offer.
-#[derive(Drop)]
+#[derive(Clone, Copy)]
 pub struct Given {
     pub roll: Roll,
     pub total: Power,
@@ -108,7 +110,7 @@ pub struct Given {
 
 // A rule of 003, by its line, with what it was found to apply to: the sheet that is backed, the round and sheet to settle, the
 // round to go to.
-#[derive(Drop)]
+#[derive(Clone, Copy)]
 pub enum Rule {
     Nothing,
     Line22,
@@ -121,7 +123,7 @@ pub enum Rule {
     Line55(Round),
 }
 
-#[derive(Drop)]
+#[derive(Clone, Copy)]
 pub struct Input {
     pub kind: u8,
     pub height: Height,
@@ -150,7 +152,7 @@ impl Input {
     pub const TIMER_PRECOMMIT: u8 = 7;
 }
 
-#[derive(Drop)]
+#[derive(Clone, Copy)]
 pub struct Output {
     pub kind: u8,
     pub round: Round,
@@ -176,7 +178,7 @@ impl Output {
 }
 
 // The outputs of a call, in order: the first `count` of `list`.
-#[derive(Drop)]
+#[derive(Clone, Copy)]
 pub struct Sent {
     pub count: usize,
     pub list: [Output; 6],

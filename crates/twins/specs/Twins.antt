@@ -1,7 +1,6 @@
 -- The flat twins of a kiosk's state, inputs and replies: what each number means, and which numbers the state's types can hold.
 -- Assumes nothing.
-use Rattle.std.specs.Prelude.{ℕ, List, map, Bool, true, false, ◌&&◌, ◌||◌, replicate, leb, eqb}
-use Rattle.words.specs.Choice.{if◌then◌else◌}
+use Rattle.std.specs.Prelude.{ℕ, map, Bool, true, false, ◌&&◌, ◌||◌, replicate, leb, eqb, if◌then◌else◌}
 use Rattle.roll.specs.declared.Roll.{Roll}
 use Rattle.rules.specs.declared.Phase.{Phase}
 use Rattle.rules.specs.declared.Phase.TheVariants.{Fresh, Running, Settled}

@@ -1,3 +1,5 @@
 // A kiosk's state, inputs and replies, and their flat twins.
+#![tactic(auto)]
+
 pub mod sent;
 pub mod state;

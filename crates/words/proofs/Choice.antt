@@ -1,4 +1,5 @@
 -- Laws of choice: an `if`, `&&`, `||`, and the tests over the numbers below a bound. Assumes nothing.
+use Rattle.std.specs.Bool.{if◌then◌else◌}
 use Prim.Native.Nat.{ℕ, zero, suc, ◌+◌, ◌≤◌, ◌<◌, pred}
 use mathlib.Core.Path.{◌≡◌, refl, sym, subst, ◌∙◌}
 use mathlib.Core.Bool.{Bool, true, false, ◌&&◌, ◌||◌, false≢true}
@@ -9,10 +10,10 @@ use native.Mathlib.Numerals.{add-one}
 use native.Mathlib.Omega.{arith}
 use lib.Dec.{ltb}
 use borrow.Author.Tests.{lt-ltb, le-ltb, ltb-true, ltb-false}
-use Rattle.words.specs.Choice.{if◌then◌else◌, all_below, lowest_below, past_highest_below, first_of}
+use Rattle.words.specs.Choice.{all_below, lowest_below, past_highest_below, first_of}
 
 -- a statement about an `if` is proved at each of its two values, where the test's answer is known
-pub by_test {ℓ κ} : {A : Type ℓ} (P : A → Type κ) (b : Bool) {x y : A} → (b ≡ true → P x) → (b ≡ false → P y) → P (if b then x else y)
+pub by_test {κ} : {A : Type 0} (P : A → Type κ) (b : Bool) {x y : A} → (b ≡ true → P x) → (b ≡ false → P y) → P (if b then x else y)
 by_test P true f g = f refl
 by_test P false f g = g refl
 

@@ -1,8 +1,7 @@
 -- Numbers as bytes, "little-endian" (01, "Journal"); bytes laid over others; bytes held against the expected ones. Assumes nothing.
-use Rattle.std.specs.Prelude.{ℕ, zero, suc, ◌+◌, ◌*◌, ◌/◌, ◌%◌, List, [], ◌∷◌, ◌++◌, length, take, drop, eqb}
+use Rattle.std.specs.Prelude.{ℕ, zero, suc, ◌+◌, ◌*◌, ◌/◌, ◌%◌, List, [], ◌∷◌, ◌++◌, length, take, drop, eqb, if◌then◌else◌}
 use Rattle.words.specs.declared.Reading.{Reading}
 use Rattle.words.specs.declared.Reading.TheVariants.{Whole, Unfinished, Damage}
-use Rattle.words.specs.Choice.{if◌then◌else◌}
 
 -- x in k bytes, the lowest first
 abbrev pub bytes : ℕ → ℕ → List ℕ

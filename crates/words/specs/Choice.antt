@@ -1,10 +1,5 @@
--- Choice by a test, and tests over the numbers below a bound: seats, rounds. Assumes nothing.
-use Rattle.std.specs.Prelude.{ℕ, zero, suc, List, [], ◌∷◌, Bool, true, false, ◌&&◌, ltb, eqb}
-
-infixr 5 if◌then◌else◌
-abbrev pub if◌then◌else◌ {ℓ} : {A : Type ℓ} → Bool → A → A → A
-if◌then◌else◌ true a b = a
-if◌then◌else◌ false a b = b
+-- Tests over the numbers below a bound: seats, rounds. Assumes nothing.
+use Rattle.std.specs.Prelude.{ℕ, zero, suc, List, [], ◌∷◌, Bool, true, false, ◌&&◌, ltb, eqb, if◌then◌else◌}
 
 -- the test holds at each number below the bound
 unfoldable pub all_below : ℕ → (ℕ → Bool) → Bool
@@ -37,7 +32,7 @@ unfoldable pub all_zero : List ℕ → Bool
 all_zero [] = true
 all_zero (x ∷ xs) = eqb x 0 && all_zero xs
 
--- To compute with this file: `unfolding the-choices` opens the above.
+-- To compute with this file: `unfolding the_choices` opens the above.
 unfoldable pub the_choices : Unit {0}
 unfolding all_below lowest_below past_highest_below first_of all_zero
 the_choices = tt

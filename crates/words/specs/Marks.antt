@@ -1,6 +1,5 @@
 -- Seat marks: one number, in which binary digit i is seat i's mark. 01, "It says which places are heard". Assumes nothing.
-use Rattle.std.specs.Prelude.{ℕ, ◌+◌, ◌/◌, ◌%◌, ◌^◌, Bool, eqb}
-use Rattle.words.specs.Choice.{if◌then◌else◌}
+use Rattle.std.specs.Prelude.{ℕ, ◌+◌, ◌/◌, ◌%◌, ◌^◌, Bool, eqb, if◌then◌else◌}
 
 -- seat i has its mark
 abbrev pub marked : ℕ → ℕ → Bool

@@ -1,6 +1,5 @@
 -- A list that grows in six places, and what both lists rely on. Assumes nothing.
-use Rattle.std.specs.Prelude.{ℕ, ◌≤◌, ◌≡◌, Bool, true, not, List, ◌++◌, length, ltb}
-use Rattle.words.specs.Choice.{if◌then◌else◌}
+use Rattle.std.specs.Prelude.{ℕ, ◌≤◌, ◌≡◌, Bool, true, not, List, ◌++◌, length, ltb, if◌then◌else◌}
 use Rattle.words.specs.Bytes.{overwrite}
 use Rattle.roll.specs.Weighing.{most_kiosks}
 use Rattle.rules.specs.declared.Output.{Output}

@@ -1,7 +1,6 @@
 -- The trail of table places by which a call can be taken back, an own message as the code puts it in the log, what firing relies on,
 -- and what a call leaves. Assumes nothing.
-use Rattle.std.specs.Prelude.{ℕ, zero, suc, ◌+◌, ◌*◌, ◌-◌, ◌≤◌, ◌<◌, ◌≡◌, List, Bool, true, length, set, get_or, replicate}
-use Rattle.words.specs.Choice.{if◌then◌else◌}
+use Rattle.std.specs.Prelude.{ℕ, zero, suc, ◌+◌, ◌*◌, ◌-◌, ◌≤◌, ◌<◌, ◌≡◌, List, Bool, true, length, set, get_or, replicate, if◌then◌else◌}
 use Rattle.roll.specs.declared.Roll.{Roll}
 use Rattle.roll.specs.Weighing.{total_of}
 use Rattle.rules.specs.declared.Progress.{Progress}

@@ -1,6 +1,5 @@
 -- A word of digits, byte by byte. Assumes nothing.
-use Rattle.std.specs.Prelude.{ℕ, List, [], ◌∷◌, Bool, true, false, not, ◌&&◌, leb, eqb}
-use Rattle.words.specs.Choice.{if◌then◌else◌}
+use Rattle.std.specs.Prelude.{ℕ, List, [], ◌∷◌, Bool, true, false, not, ◌&&◌, leb, eqb, if◌then◌else◌}
 use Rattle.lines.specs.declared.Number.{Number}
 use Rattle.lines.specs.Reading.{said, is, none}
 

@@ -1,7 +1,6 @@
 -- A line's pattern: some bytes are marks, each of which stands for a number of a list; any other byte stands for itself.
 -- Assumes nothing.
-use Rattle.std.specs.Prelude.{ℕ, Bool, ◌||◌, List, [], ◌∷◌, ◌++◌, eqb, get_or, drop}
-use Rattle.words.specs.Choice.{if◌then◌else◌}
+use Rattle.std.specs.Prelude.{ℕ, Bool, ◌||◌, List, [], ◌∷◌, ◌++◌, eqb, get_or, drop, if◌then◌else◌}
 use Rattle.listing.specs.Text.{decimal, valid_round, input_word, output_word}
 
 -- `%` a number, `#` a valid round in its plus-one form, `<` the word of an input's kind, `>` the word of an output's
@@ -38,7 +37,7 @@ unfoldable pub filled : List ℕ → List ℕ → List ℕ
 filled [] numbers = []
 filled (byte ∷ pattern) numbers = piece byte (get_or numbers 0 0) ++ filled pattern (drop (taken byte) numbers)
 
--- To compute with this file: `unfolding the-pattern` opens the above.
+-- To compute with this file: `unfolding the_pattern` opens the above.
 unfoldable pub the_pattern : Unit {0}
 unfolding piece taken filled
 the_pattern = tt

@@ -1,7 +1,6 @@
 -- Parts of the refusals that functions of the code answer by themselves. Only the code's contracts are written in this file. Assumes
 -- nothing.
-use Rattle.std.specs.Prelude.{ℕ, ◌^◌, Bool, ◌&&◌, ◌||◌, not, ltb, leb, eqb}
-use Rattle.words.specs.Choice.{if◌then◌else◌}
+use Rattle.std.specs.Prelude.{ℕ, ◌^◌, Bool, ◌&&◌, ◌||◌, not, ltb, leb, eqb, if◌then◌else◌}
 use Rattle.rules.specs.declared.Votes.{Votes}
 use Rattle.rules.specs.declared.Votes.TheVariants.{Prevotes, Precommits}
 use Rattle.rules.specs.declared.Heard.{Heard}
