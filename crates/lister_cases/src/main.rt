@@ -1,43 +1,63 @@
 // Each file of data/ is a journal: its name, and then its listing.
+#![tactic(auto)]
+
+ghost use Rattle.std.specs.Prelude.{◌≤◌, length, IfOk};
+
 use printing::{MOST_BYTES, TEXT_ROOM, print_journal};
+use std::fs::File;
+use std::io;
+use std::io::Read;
+use std::rt::Files;
+
+// Reads until the buffer is full or the file ends; how many bytes that were.
+fn read_full(from: &mut impl Read, buf: &mut [u8]) -> io::Result<usize>
+    ensures { IfOk result (λ n. n ≤ length buf.new) }
+{
+    let mut done: usize = 0;
+    while done < buf.len() {
+        let n = from.read(&mut buf[done..])?;
+        if n == 0 {
+            break;
+        }
+        done += n;
+    }
+    Ok(done)
+}
 
 // The first bytes of the text.
-fn show(text: &[u8], size: usize) {
+fn show(rt: &impl Print, text: &[u8], size: usize) -> io::Result<()> {
     if size <= text.len() {
-        io::write_all(1, &text[0..size]);
+        rt.write_all(&text[0..size])?;
     }
+    Ok(())
 }
 
-fn list(path: &[u8]) {
-    io::write_all(1, path);
-    io::write_all(1, b"\n");
-    let fd = os::open_read(path);
-    if fd < 0 {
-        io::write_all(1, b"no such file\n");
-        return;
-    }
+fn list(rt: &(impl Files + Print), path: &str) -> io::Result<()> {
+    println!(rt; "{path}")?;
+    let Ok(mut file) = File::open(rt, path) else {
+        return println!(rt; "no such file");
+    };
     let mut journal = [0u8; MOST_BYTES + 1];
-    let n = io::read_full(fd, &mut journal);
-    libc::close(fd);
+    let n = read_full(&mut file, &mut journal)?;
     let mut text = [0u8; TEXT_ROOM];
     let page = print_journal(&journal[..n], &mut text);
-    show(&text, page.size);
+    show(rt, &text, page.size)
 }
 
-fn main() {
-    list(b"empty");
-    list(b"count-33");
-    list(b"four");
-    list(b"cut-in-powers");
-    list(b"cut-in-own-section");
-    list(b"cut-in-input");
-    list(b"cut-in-outputs");
-    list(b"bad-power");
-    list(b"bad-section");
-    list(b"bad-zero");
-    list(b"bad-output");
-    list(b"settled");
-    list(b"settled-and-more");
-    list(b"fullest");
-    list(b"fullest-and-more");
+fn main(rt: HostRuntime) -> io::Result<()> {
+    list(&rt, "empty")?;
+    list(&rt, "count-33")?;
+    list(&rt, "four")?;
+    list(&rt, "cut-in-powers")?;
+    list(&rt, "cut-in-own-section")?;
+    list(&rt, "cut-in-input")?;
+    list(&rt, "cut-in-outputs")?;
+    list(&rt, "bad-power")?;
+    list(&rt, "bad-section")?;
+    list(&rt, "bad-zero")?;
+    list(&rt, "bad-output")?;
+    list(&rt, "settled")?;
+    list(&rt, "settled-and-more")?;
+    list(&rt, "fullest")?;
+    list(&rt, "fullest-and-more")
 }

@@ -1,7 +1,9 @@
 // The numbers among the program's arguments.
+use std::env::FillError;
+use std::rt::Env;
 
 // An argument that is a number, and whether it is one.
-#[derive(Drop)]
+#[derive(Clone, Copy)]
 pub struct Figure {
     pub value: u64,
     pub is_good: bool,
@@ -42,8 +44,28 @@ fn decimal(text: &[u8]) -> Figure {
     }
 }
 
-pub fn number(i: usize) -> Figure {
+pub fn number(rt: &impl Env, i: usize) -> Figure {
     let mut text = [0u8; 16];
-    let n = os::arg(i, &mut text);
-    decimal(&text[..n])
+    match rt.arg(i, &mut text) {
+        Ok(n) => decimal(&text[..n]),
+        Err(_) => none(),
+    }
+}
+
+fn is_there(rt: &impl Env, i: usize) -> bool {
+    match rt.arg(i, &mut []) {
+        Ok(_) => true,
+        Err(FillError::TooLong) => true,
+        Err(FillError::NotPresent) => false,
+    }
+}
+
+// How many arguments there are, the program's own name among them.
+pub fn count(rt: &impl Env) -> usize {
+    for i in 0..usize::MAX {
+        if !is_there(rt, i) {
+            return i;
+        }
+    }
+    usize::MAX
 }

@@ -1,40 +1,45 @@
 // A journal's listing, and its last record's part of it.
 use crate::files::load;
+use crate::tell;
+use disk::Opened;
 use printing::{MOST_BYTES, TEXT_ROOM, print_journal};
+use std::fs::File;
+use std::rt::Runtime;
 
-fn show(text: &[u8], from: usize, to: usize) {
+fn show(rt: &impl Print, text: &[u8], from: usize, to: usize) {
     if to < from {
         return;
     }
     if text.len() < to {
         return;
     }
-    saying::listing(&text[from..to]);
+    saying::listing(rt, &text[from..to]);
 }
 
 // The listing of a file; its length, 0 where the file cannot be read.
-fn listing(path: &[u8], text: &mut [u8]) -> usize {
-    let fd = os::open_read(path);
-    if fd < 0 {
-        os::fail(path);
-        return 0;
-    }
+fn listing<R: Runtime<File = File>>(rt: &R, path: &str, text: &mut [u8]) -> usize {
+    let mut file = match File::open(rt, path) {
+        Ok(file) => Opened::new(file),
+        Err(e) => {
+            tell::failed(rt, path, Some(e));
+            return 0;
+        }
+    };
     let mut journal = [0u8; MOST_BYTES + 1];
-    let l = load(fd, &mut journal);
+    let l = load(&mut file, &mut journal);
     let size = l.size;
-    libc::close(fd);
     if l.is_whole | l.is_long {
         let page = print_journal(&journal[..size], text);
         return page.size;
     }
-    os::fail(path);
+    tell::failed(rt, path, file.why);
     0
 }
 
-pub fn list(path: &[u8]) {
+pub fn list<R: Runtime<File = File>>(rt: &R, path: &str) {
     let mut text = [0u8; TEXT_ROOM];
-    let size = listing(path, &mut text);
-    show(&text, 0, size);
+    let size = listing(rt, path, &mut text);
+    show(rt, &text, 0, size);
 }
 
 // Where the last line starts that starts with a byte between two; the end where there is none.
@@ -57,15 +62,15 @@ fn last_line(text: &[u8], size: usize, low: u8, high: u8) -> usize {
 }
 
 // The last call line and its out lines; nothing where there is no record; the refusal where the journal does not open.
-pub fn last(path: &[u8]) {
+pub fn last<R: Runtime<File = File>>(rt: &R, path: &str) {
     let mut text = [0u8; TEXT_ROOM];
-    let size = listing(path, &mut text);
+    let size = listing(rt, path, &mut text);
     let refused = last_line(&text, size, b'r', b'r');
     if refused < size {
-        show(&text, 0, size);
+        show(rt, &text, 0, size);
         return;
     }
     let from = last_line(&text, size, b'0', b'9');
     let to = last_line(&text, size, b'e', b'e');
-    show(&text, from, to);
+    show(rt, &text, from, to);
 }

@@ -1,5 +1,7 @@
 // A kiosk as a program: its journal is a file, its inputs are lines of standard input, its answers lines of standard output.
 // bin/node starts it: exit statuses, the lock, signals and the kind of a file are that launcher's.
+#![tactic(auto)]
+
 mod args;
 mod files;
 mod list;
@@ -7,6 +9,8 @@ mod make;
 mod serve;
 mod tell;
 
+use std::fs::File;
+use std::rt::{Env, Runtime};
 use words::Reading;
 use words::bytes::compare;
 
@@ -18,39 +22,39 @@ fn is_word(verb: &[u8], word: &[u8]) -> bool {
     }
 }
 
-fn command(verb: &[u8], path: &[u8], count: usize) {
+fn command<R: Runtime<File = File>>(rt: &R, verb: &[u8], path: &str, count: usize) {
     if is_word(verb, b"create") {
-        make::create(path, count);
+        make::create(rt, path, count);
         return;
     }
     if is_word(verb, b"run-locked") {
-        serve::run(path);
+        serve::run(rt, path);
         return;
     }
     if is_word(verb, b"last") {
-        list::last(path);
+        list::last(rt, path);
         return;
     }
     if is_word(verb, b"list") {
-        list::list(path);
+        list::list(rt, path);
         return;
     }
-    tell::wrong();
+    tell::wrong(rt);
 }
 
-fn main() {
-    let count = os::arg_count();
+// A path is text: one of other bytes is a wrong argument.
+fn main(rt: HostRuntime) {
+    let count = args::count(&rt);
     let mut verb = [0u8; 16];
-    let v = os::arg(1, &mut verb);
-    if os::errno() != 0 {
-        tell::wrong();
-        return;
-    }
-    let mut path = io::buffer();
-    let n = os::arg(2, &mut path);
-    if os::errno() != 0 {
-        tell::wrong();
-        return;
-    }
-    command(&verb[..v], &path[..n], count);
+    let Ok(v) = rt.arg(1, &mut verb) else {
+        return tell::wrong(&rt);
+    };
+    let mut path = [0u8; 4096];
+    let Ok(n) = rt.arg(2, &mut path) else {
+        return tell::wrong(&rt);
+    };
+    let Ok(path) = str::from_utf8(&path[..n]) else {
+        return tell::wrong(&rt);
+    };
+    command(&rt, &verb[..v], path, count);
 }

@@ -8,6 +8,8 @@ use crate::tell;
 use kiosk::calls::create as create_journal;
 use refusals::answers::is_accepted;
 use roll::Height;
+use std::fs::File;
+use std::rt::{Env, Runtime};
 
 // The header of 32 kiosks.
 const HEADER: usize = 71;
@@ -24,13 +26,13 @@ fn low4(n: u64) -> u32 {
 }
 
 // The powers, from argument 5 on: at most 33, so that more than 32 show.
-fn powers(count: usize, into: &mut [u16]) -> bool {
+fn powers(rt: &impl Env, count: usize, into: &mut [u16]) -> bool {
     let mut i: usize = 0;
     while i < into.len() {
         if count <= i {
             return true;
         }
-        let p = number(5 + i);
+        let p = number(rt, 5 + i);
         if !p.is_good {
             return false;
         }
@@ -41,51 +43,57 @@ fn powers(count: usize, into: &mut [u16]) -> bool {
 }
 
 // The header in a new file; or the refusal.
-fn make(path: &[u8], powers: &[u16], own: usize, height: u32) {
+fn make<R: Runtime<File = File>>(rt: &R, path: &str, powers: &[u16], own: usize, height: u32) {
     let mut header = [0u8; HEADER];
     let m = create_journal(powers, own, Height(height), &mut header);
     let answer = m.answer;
     let size = m.used;
     if !is_accepted(answer) {
-        saying::refused(answer);
+        saying::refused(rt, answer);
         return;
     }
-    keep(path, &header, size);
+    keep(rt, path, &header, size);
 }
 
-fn keep(path: &[u8], header: &[u8], size: usize)
+fn keep<R: Runtime<File = File>>(rt: &R, path: &str, header: &[u8], size: usize)
     requires { length header.now ≤ most_record }
 {
     if header.len() < size {
         return;
     }
-    let fd = open_new(path, &header[0..size]);
-    if fd < 3 {
+    let Some(file) = open_new(rt, path, &header[0..size]) else {
         return;
-    }
-    write_new(path, fd, &header[0..size]);
-    libc::close(fd);
+    };
+    write_new(rt, path, file, &header[0..size]);
 }
 
-fn make_of(path: &[u8], powers: &[u16], count: usize, own: usize, height: u32) {
+fn make_of<R: Runtime<File = File>>(
+    rt: &R,
+    path: &str,
+    powers: &[u16],
+    count: usize,
+    own: usize,
+    height: u32,
+) {
     if powers.len() <= count {
-        make(path, powers, own, height);
+        make(rt, path, powers, own, height);
         return;
     }
-    make(path, &powers[0..count], own, height);
+    make(rt, path, &powers[0..count], own, height);
 }
 
-pub fn create(path: &[u8], count: usize) {
+pub fn create<R: Runtime<File = File>>(rt: &R, path: &str, count: usize) {
     if count < 6 {
-        tell::wrong();
+        tell::wrong(rt);
         return;
     }
-    let own = number(3);
-    let height = number(4);
+    let own = number(rt, 3);
+    let height = number(rt, 4);
     let mut list = [0u16; 33];
-    let is_good = powers(count - 5, &mut list);
+    let is_good = powers(rt, count - 5, &mut list);
     if own.is_good & height.is_good & is_good & (height.value < 4294967296) {
         make_of(
+            rt,
             path,
             &list,
             count - 5,
@@ -94,5 +102,5 @@ pub fn create(path: &[u8], count: usize) {
         );
         return;
     }
-    tell::wrong();
+    tell::wrong(rt);
 }

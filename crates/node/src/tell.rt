@@ -1,35 +1,66 @@
 // What is told on standard error.
-fn line(path: &[u8], what: &[u8]) {
-    io::write_all(2, path);
-    io::write_all(2, what);
+use std::io;
+
+fn line(rt: &impl Eprint, path: &str, what: &str) {
+    let _ = rt.eprint(format_args!("{path}{what}"));
 }
 
-pub fn wrong() {
-    io::write_all(2, b"wrong arguments: see bin/node --help\n");
+pub fn wrong(rt: &impl Eprint) {
+    let _ = rt.eprint("wrong arguments: see bin/node --help\n");
 }
 
-pub fn closed(path: &[u8]) {
-    line(path, b": standard input, output and error must be open\n");
-}
-
-pub fn longer(path: &[u8]) {
+pub fn closed(rt: &impl Eprint, path: &str) {
     line(
+        rt,
         path,
-        b": not touched: it is longer than an unfinished header, or cannot be read\n",
+        ": standard input, output and error must be open\n",
     );
 }
 
-pub fn whole(path: &[u8]) {
-    line(path, b": not touched: its header is whole\n");
-}
-
-pub fn other(path: &[u8]) {
-    line(path, b": not touched: it is no first part of this header\n");
-}
-
-pub fn unknown(path: &[u8]) {
+pub fn longer(rt: &impl Eprint, path: &str) {
     line(
+        rt,
         path,
-        b": nothing is known of the file: stopped, and nothing is sent\n",
+        ": not touched: it is longer than an unfinished header, or cannot be read\n",
     );
+}
+
+pub fn whole(rt: &impl Eprint, path: &str) {
+    line(rt, path, ": not touched: its header is whole\n");
+}
+
+pub fn other(rt: &impl Eprint, path: &str) {
+    line(
+        rt,
+        path,
+        ": not touched: it is no first part of this header\n",
+    );
+}
+
+pub fn unknown(rt: &impl Eprint, path: &str) {
+    line(
+        rt,
+        path,
+        ": nothing is known of the file: stopped, and nothing is sent\n",
+    );
+}
+
+// What the system said, without its number.
+fn words_of(text: &str) -> &str {
+    match text.split_once(" (os error ") {
+        Some((words, _)) => words,
+        None => text,
+    }
+}
+
+// What failed, and what the system said of it.
+pub fn failed(rt: &(impl Eprint + Alloc), path: &str, why: Option<io::Error>) {
+    let Some(e) = why else {
+        return line(rt, path, ": failed\n");
+    };
+    let Ok(text) = format!(in rt.alloc(); "{e}") else {
+        return line(rt, path, ": failed, and memory ran out\n");
+    };
+    let said = words_of(text.as_str());
+    let _ = rt.eprint(format_args!("{path}: {said}\n"));
 }

@@ -1,4 +1,6 @@
 // What a run says on standard output, each answer in one write. Nothing else of the program writes outputs there.
+#![tactic(auto)]
+
 ghost use Rattle.std.specs.Prelude.{◌+◌, ◌≤◌, ◌≡◌, true, length, take};
 ghost use Rattle.words.specs.Bytes.{in_order, overwrite};
 ghost use Rattle.rules.specs.InContracts.Ready.{so_far};
@@ -98,55 +100,55 @@ fn bad_text(text: &mut [u8], n: u64) -> usize
 }
 
 // The first bytes of a text, in one write.
-fn show(text: &[u8], size: usize) -> bool {
+fn show(rt: &impl Print, text: &[u8], size: usize) -> bool {
     if text.len() < size {
         return false;
     }
-    io::write_all(1, &text[0..size])
+    listing(rt, &text[0..size])
 }
 
 // Both lists of a journal, before any input is read: `synced` is that its file is cut at the used length and durable.
-pub fn again(synced: bool, journal: &[u8], messages: Sent, timers: Sent) -> bool
+pub fn again(rt: &impl Print, synced: bool, journal: &[u8], messages: Sent, timers: Sent) -> bool
     requires { (synced ≡ true) × Lists journal.now messages timers }
 {
     let mut text = [0u8; ROOM];
     let size = again_text(&mut text, synced, journal, messages, timers);
-    show(&text, size)
+    show(rt, &text, size)
 }
 
 // The outputs of a call. The token is of the group of this input and these outputs, in its place, and what is written is read out of it.
-pub fn accepted(d: Durable, at: usize, i: Input, sent: Sent) -> bool
+pub fn accepted(rt: &impl Print, d: Durable, at: usize, i: Input, sent: Sent) -> bool
     requires { Vouches d at (group_bytes i (so_far sent)) }
 {
     let mut text = [0u8; ROOM];
     let size = accepted_text(&mut text, d, at, i, sent);
-    show(&text, size)
+    show(rt, &text, size)
 }
 
 // A new journal, of which the header and the file's name in its folder are durable.
-pub fn created(d: Durable, header: &[u8], named: bool) -> bool
+pub fn created(rt: &impl Print, d: Durable, header: &[u8], named: bool) -> bool
     requires { Vouches d 0 header.now × (named ≡ true) }
 {
     let mut text = [0u8; ROOM];
     let size = created_text(&mut text, d);
-    show(&text, size)
+    show(rt, &text, size)
 }
 
 // "refused 12", and where the answer has a place "refused 14 at 63".
-pub fn refused(answer: Answer) -> bool {
+pub fn refused(rt: &impl Print, answer: Answer) -> bool {
     let mut text = [0u8; ROOM];
     let size = refused_line(&mut text, 0, answer);
-    show(&text, size)
+    show(rt, &text, size)
 }
 
 // A line that is no input, by its number from 1.
-pub fn bad_line(n: u64) -> bool {
+pub fn bad_line(rt: &impl Print, n: u64) -> bool {
     let mut text = [0u8; ROOM];
     let size = bad_text(&mut text, n);
-    show(&text, size)
+    show(rt, &text, size)
 }
 
 // A listing, or a part of one.
-pub fn listing(text: &[u8]) -> bool {
-    io::write_all(1, text)
+pub fn listing(rt: &impl Print, text: &[u8]) -> bool {
+    rt.write_all(text).is_ok()
 }
