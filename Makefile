@@ -10,10 +10,10 @@ FUZZ_SECONDS ?= 60
 # Heights that `make market` plays.
 MARKET_HEIGHTS ?= 2000
 
-# Checks at a time: two to a core keep both cores busy while the last of a batch ends.
-export RT_JOBS ?= 4
-
 .PHONY: test installed rust board try-market told mutants edits soak fuzz bench demo market story stories picture node fresh-node simulator browser lib staticlib tools emulator cross native
+
+# The node program, where rt ci and rt run leave it.
+NODE := crates/node/out/node
 
 INSTALL := apt-get update && apt-get install -y
 # $(call need,COMMAND,PACKAGE)
@@ -31,13 +31,15 @@ export CARGO_TARGET_X86_64_UNKNOWN_LINUX_GNU_RUNNER := $(RUNNER)
 EMULATOR := gcc-x86-64-linux-gnu libc6-dev-amd64-cross libc6:amd64 qemu-user
 endif
 
-# The proofs, the must-fail edits and the programs; then the library that firmware links, from the stamps that rt ci leaves, and the Rust tests.
-# The verdict, rt ci's last line, is said again at the very end, and only if all passed. It is kept outside target/, which rt ci removes.
+# The proofs, the must-fail edits and the programs; then the library that firmware links, over the libraries that rt ci leaves, and the Rust tests.
+# A must-fail edit that no longer fits its text is bad, and fails here. The verdict, rt ci's last line, is said again at the very end, and only
+# if all passed.
 test: emulator installed
 	@mkdir -p .gate
-	@set -o pipefail; tools/in-memory rt ci 2>&1 | tee .gate/ci.log || { echo 'rt ci FAILED'; exit 1; }
+	@set -o pipefail; rt ci 2>&1 | tee .gate/ci.log || { echo 'rt ci FAILED'; exit 1; }
+	@! grep -E '^rt: ok.*, [0-9]+ bad' .gate/ci.log || { echo 'a must-fail edit is BAD'; exit 1; }
 	@echo 'rt ci passed; the library, the Rust tests and the market follow'
-	+@tools/in-memory $(MAKE) --no-print-directory --output-sync=target -j2 board rust try-market || { echo 'the library, the Rust tests or the market FAILED'; exit 1; }
+	+@AFTER_CI=1 tools/in-memory $(MAKE) --no-print-directory --output-sync=target -j2 board rust try-market || { echo 'the library, the Rust tests or the market FAILED'; exit 1; }
 	@tail -n 1 .gate/ci.log | grep -xE '[0-9]+ passed, 0 failed'
 
 # Installed one after the other, since what follows runs side by side.
@@ -46,7 +48,7 @@ installed:
 	$(call need,strace,strace)
 	$(call need,chromium,chromium)
 
-# The Rust tests that need no proved library; those of node need target/bin/node, which rt ci or `make node` builds.
+# The Rust tests that need no proved library; those of node need its program, which rt ci or `make node` builds.
 rust: tools
 	$(call need,strace,strace)
 	cd second && $(CARGO) test --release --quiet
@@ -57,7 +59,7 @@ board: lib
 
 # The market's tests: stories, small heights and the page in a browser, over the node that rt ci left. Some of them play at a time.
 try-market: emulator browser
-	@test -x target/bin/node || { echo 'there is no target/bin/node: make node' >&2; exit 1; }
+	@test -x $(NODE) || { echo 'there is no $(NODE): make node' >&2; exit 1; }
 	cd second && $(CARGO) test --release --quiet -p market -- --test-threads=2
 
 # The calls with second's whole replies that crates/examples proves of the definitions.
@@ -66,7 +68,7 @@ told: tools
 	cd second && $(CARGO) build --release --quiet --example told
 	$(CARGO_TARGET_DIR)/release/examples/told > $(CARGO_TARGET_DIR)/told.txt
 	cp $(CARGO_TARGET_DIR)/told.txt $(TOLD)
-	rt fmt
+	cd crates/examples && rt fmt
 
 # Wrong definitions, made from specs/ by one change each, against the lists of cases alone: prints those that no list refuses.
 mutants:
@@ -76,7 +78,7 @@ mutants:
 # Edits of inner code, crates/NAME/edits, that the prover must refuse; NAMES="rules kiosk" takes those crates alone, and ALL=1 must-fail/ too.
 edits:
 	$(call need,python3,python3)
-	@tools/in-memory tools/edits $(if $(ALL),--all) $(NAMES)
+	@tools/edits $(if $(ALL),--all) $(NAMES)
 
 # The same comparisons over many more calls, longer deliveries and more journals.
 soak: emulator staticlib
@@ -113,7 +115,7 @@ bench: cross staticlib
 endif
 
 # How the market starts a node.
-export SLIP_NODE ?= $(strip $(RUNNER) $(CURDIR)/target/bin/node)
+export SLIP_NODE ?= $(strip $(RUNNER) $(CURDIR)/$(NODE))
 MARKET := $(CARGO_TARGET_DIR)/release/market
 DEMO := target/demo
 
@@ -143,11 +145,11 @@ picture: demo browser
 
 # The node program, proved again only where a crate is newer.
 fresh-node:
-	@if test -x target/bin/node && test -z "$$(find crates crates.txt -type f -newer target/bin/node -print -quit)"; then exit 0; fi; \
+	@if test -x $(NODE) && test -z "$$(find crates crates.txt -path 'crates/*/out' -prune -o -type f -newer $(NODE) -print -quit)"; then exit 0; fi; \
 	  echo 'proving the node program and all that it stands on'; begun=$$SECONDS; \
 	  mkdir -p .gate; $(MAKE) --no-print-directory node > .gate/node.log 2>&1 & made=$$!; \
 	  while sleep 1; kill -0 $$made 2> /dev/null; do test $$(((SECONDS - begun) % 10)) -ne 0 || echo "  $$((SECONDS - begun)) s"; done; \
-	  wait $$made || { cat .gate/node.log; exit 1; }; touch target/bin/node; echo "proved and built in $$((SECONDS - begun)) s"
+	  wait $$made || { cat .gate/node.log; exit 1; }; touch $(NODE); echo "proved and built in $$((SECONDS - begun)) s"
 
 simulator: tools
 	@cd second && $(CARGO) build --release --quiet -p market
@@ -155,10 +157,11 @@ simulator: tools
 browser:
 	$(call need,chromium,chromium)
 
-# The node program, proved and built as target/bin/node; bin/node starts it. Some minutes from nothing, and seconds after that.
+# The node program, proved and built; bin/node starts it. Some minutes from nothing, and seconds after that. rt runs it too, once it is built: on an empty journal.
 node: emulator
-	@rt check node > target.log 2>&1 || { cat target.log; exit 1; }
-	@rm -f target.log
+	@mkdir -p .gate
+	@cd crates/node && rt run -- list /dev/null > ../../.gate/node-run.log 2>&1; \
+	  grep -q '^rt: running out/node' ../../.gate/node-run.log || { cat ../../.gate/node-run.log; exit 1; }
 	@bin/node --help
 
 # lib/: the proved library with its header, its pkg-config file and the examples, for firmware to take. Both ways to compile are tried: the
@@ -168,8 +171,8 @@ lib_line = $(LIB_CC) lib/loop.c -Ilib -Llib -lboard -o $(1)
 VERSION = $(shell sed -n 's/^.define SLIP_VERSION "\(.*\)".*/\1/p' include/slipcoacher.h)
 lib: emulator staticlib
 	$(call need,pkg-config,pkgconf)
-	@mkdir -p lib $(CARGO_TARGET_DIR)
-	@cp target/staticlib/libboard.a include/slipcoacher.h include/example.c include/loop.c lib/
+	@mkdir -p $(CARGO_TARGET_DIR)
+	@cp include/slipcoacher.h include/example.c include/loop.c lib/
 	@sed 's/@VERSION@/$(VERSION)/' include/slipcoacher.pc.in > lib/slipcoacher.pc
 	@$(call lib_line,$(CARGO_TARGET_DIR)/loop)
 	@$(LIB_CC) lib/example.c $$(PKG_CONFIG_PATH=lib pkg-config --cflags --libs slipcoacher) -o $(CARGO_TARGET_DIR)/example
@@ -177,10 +180,9 @@ lib: emulator staticlib
 	@echo "in lib/: $$(ls lib | xargs)"
 	@echo "to compile: $(call lib_line,loop)"
 
-# target/staticlib/libboard.a, proved by the same command; what board needs is proved first, side by side.
+# lib/libboard.a, proved by the same command.
 staticlib: tools
-	rt check $(shell sed -n 's/^board: *//p' crates.txt)
-	rt staticlib board
+	tools/archive lib/libboard.a
 
 tools:
 	$(call need,cargo,cargo-web rustc-web)

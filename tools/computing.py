@@ -39,7 +39,7 @@ LIBRARY = {
     "length": len,
     "take": lambda n, l: l[:n],
     "drop": lambda n, l: l[n:],
-    "getD": lambda l, i, d: l[i] if i < len(l) else d,
+    "get_or": lambda l, i, d: l[i] if i < len(l) else d,
     "set": put_at,
     "replicate": lambda n, x: (x,) * n,
     "map": lambda f, l: tuple(f(x) for x in l),
@@ -220,12 +220,9 @@ class Lists(Specs):
 
     def __init__(self):
         super().__init__()
-        self.aliases = {}
         for path in self.FILES:
             file = File(path + ".antt")
             self.files[file.path] = file
-            for module, name in re.findall(r"^use (\S+) as (\w+)$", file.text, re.M):
-                self.aliases[file.path, name] = self.path_of(module)
             self.read_items(file, tokens_of(file.text), 0)
 
     def read_item(self, file, item, margin):
@@ -237,13 +234,13 @@ class Lists(Specs):
             pass
 
     def path_of(self, module):
-        found = re.fullmatch(r"Rattle·(\w+)(?:·specs\.specs|·proofs\.proofs|\.specs|\.proofs)\.(\w+)", module)
-        return found and f"{found[1]}/{'proofs' if 'proofs' in module else 'specs'}/{found[2]}.antt"
+        found = re.fullmatch(r"Rattle\.(\w+)\.(specs|proofs)\.(\w+)", module)
+        return found and f"{found[1]}/{found[2]}/{found[3]}.antt"
 
     def resolve(self, file, name):
         if "." in name:
-            alias, name = name.split(".")
-            return self.files[self.aliases[file.path, alias]].definitions[name]
+            module, name = name.split(".")
+            return self.files[self.path_of(file.modules[module])].definitions[name]
         path = self.path_of(file.imports.get(name, ""))
         if name not in file.definitions and path in self.files and name in self.files[path].definitions:
             return self.files[path].definitions[name]
@@ -266,13 +263,13 @@ class Cases:
         return (lambda *arguments: space[symbol](*arguments)) if self.computing.arity(d) else space[symbol]()
 
     def told(self):
-        put, opening, create, last = (self.of("board/specs/Board", name) for name in ("board-put", "board-open", "board-create", "last-part"))
+        put, opening, create, last = (self.of("board/specs/Board", name) for name in ("board_put", "board_open", "board_create", "last_part"))
         for c in self.of("examples/proofs/Told", "calls"):
-            yield "told", lambda c=c: put(c["input"], c["kiosk"], c["table"], c["journal"]), {"reply": c["reply"], "table": c["table-after"], "journal": c["journal-after"]}
+            yield "told", lambda c=c: put(c["input"], c["kiosk"], c["table"], c["journal"]), {"reply": c["reply"], "table": c["table_after"], "journal": c["journal_after"]}
         for c in self.of("examples/proofs/Told", "openings"):
-            yield "told", lambda c=c: opening(c["journal"], c["used"], c["table"]), {"reply": c["reply"], "table": c["table-after"]}
+            yield "told", lambda c=c: opening(c["journal"], c["used"], c["table"]), {"reply": c["reply"], "table": c["table_after"]}
         for c in self.of("examples/proofs/Told", "creatings"):
-            yield "told", lambda c=c: create(c["powers"], c["own"], c["height"], c["journal"]), {"made": c["made"], "journal": c["journal-after"]}
+            yield "told", lambda c=c: create(c["powers"], c["own"], c["height"], c["journal"]), {"made": c["made"], "journal": c["journal_after"]}
         for c in self.of("examples/proofs/Told", "showings"):
             yield "told", lambda c=c: last(c["kiosk"], c["journal"]), c["part"]
 
@@ -282,29 +279,29 @@ class Cases:
         return ({"answer": o["answer"], "sent": sent, "kiosk": o["kiosk"]}, *(o[name] for name in lent))
 
     def opening(self, c):
-        o = self.of("kiosk/specs/Opening", "open-journal")(c["journal"], c["used"], c["table"])
+        o = self.of("kiosk/specs/Opening", "open_journal")(c["journal"], c["used"], c["table"])
         return self.replied(o, "table")
 
     def telling(self, inputs):
-        create, opening, put = self.of("kiosk/specs/Calls", "create"), self.of("kiosk/specs/Opening", "open-journal"), self.of("kiosk/specs/Calls", "put")
+        create, opening, put = self.of("kiosk/specs/Calls", "create"), self.of("kiosk/specs/Opening", "open_journal"), self.of("kiosk/specs/Calls", "put")
         made = create((1, 1, 1, 1), 0, 1, (255,) * 520)
         o = opening(made["journal"], made["used"], (0,) * 1040)
         o = {**o, "sent": (), "journal": made["journal"]}
         for i in inputs:
             o = put(i, o["kiosk"], o["table"], o["journal"])
-        return (*self.replied(o, "table", "journal"), self.of("kiosk/specs/Calls", "last-group")(o["kiosk"], o["journal"]))
+        return (*self.replied(o, "table", "journal"), self.of("kiosk/specs/Calls", "last_group")(o["kiosk"], o["journal"]))
 
     def tellings(self, tellings):
         for t in tellings:
-            yield "tellings", lambda t=t: self.telling(t["inputs"]), (t["reply"], t["table-after"], t["journal-after"], t["last"])
+            yield "tellings", lambda t=t: self.telling(t["inputs"]), (t["reply"], t["table_after"], t["journal_after"], t["last"])
 
     def openings(self, openings):
         for c in openings:
-            yield "openings", lambda c=c: self.opening(c), (c["reply"], c["table-after"])
+            yield "openings", lambda c=c: self.opening(c), (c["reply"], c["table_after"])
 
     def examples(self):
         e = self.of("examples/specs/Examples", "examples")
-        so, roomy, listing = self.of("roll/proofs/Examples", "weighs-so"), self.of("journal/specs/Layout", "roomy"), self.of("listing/specs/Listing", "listing")
+        so, roomy, listing = self.of("roll/proofs/Examples", "weighs_so"), self.of("journal/specs/Layout", "roomy"), self.of("listing/specs/Listing", "listing")
         for w in e["weighed"]:
             yield "weighings", lambda w=w: so(w), True
         for r in e["rooms"]:
@@ -315,54 +312,54 @@ class Cases:
             yield "listings", lambda l=l: listing(l["journal"]), l["text"]
 
     def made_up(self):
-        m = self.of("examples/specs/MadeUp", "made-up")
-        put, create, last = (self.of("kiosk/specs/Calls", name) for name in ("put", "create", "last-group"))
+        m = self.of("examples/specs/MadeUp", "made_up")
+        put, create, last = (self.of("kiosk/specs/Calls", name) for name in ("put", "create", "last_group"))
         for c in m["calls"]:
-            yield "made-up", lambda c=c: self.replied(put(c["input"], c["kiosk"], c["table"], c["journal"]), "table", "journal"), (c["reply"], c["table-after"], c["journal-after"])
+            yield "made-up", lambda c=c: self.replied(put(c["input"], c["kiosk"], c["table"], c["journal"]), "table", "journal"), (c["reply"], c["table_after"], c["journal_after"])
         yield from self.openings(m["openings"])
         for c in m["creatings"]:
-            yield "made-up", lambda c=c: create(c["powers"], c["own"], c["height"], c["journal"]), {**c["made"], "journal": c["journal-after"]}
+            yield "made-up", lambda c=c: create(c["powers"], c["own"], c["height"], c["journal"]), {**c["made"], "journal": c["journal_after"]}
         for c in m["showings"]:
             yield "made-up", lambda c=c: last(c["kiosk"], c["journal"]), c["part"]
-        yield from self.tellings([self.of("examples/specs/MadeUp", "whole-height")])
+        yield from self.tellings([self.of("examples/specs/MadeUp", "whole_height")])
 
     def stories(self):
         desk, worked = self.of("rules/specs/Log", "desk"), self.of("rules/specs/Work", "worked")
 
         def leaves(s):
-            d = {"state": s["before"], "table": s["table-before"]}
+            d = {"state": s["before"], "table": s["table_before"]}
             for i in s["inputs"]:
                 d = worked(i, desk(d["state"], d["table"]))
             return d["sent"], d["state"], d["table"]
 
         for s in self.of("rules/proofs/Stories", "stories"):
-            yield "stories", lambda s=s: leaves(s), (s["sends"], s["after"], s["table-after"])
+            yield "stories", lambda s=s: leaves(s), (s["sends"], s["after"], s["table_after"])
 
     def again(self):
-        wake, say, packed = self.of("again/specs/Again", "wake"), self.of("again/specs/Again", "say-again"), self.of("rules/specs/Sent", "packed")
+        wake, say, packed = self.of("again/specs/Again", "wake"), self.of("again/specs/Again", "say_again"), self.of("rules/specs/Sent", "packed")
 
         def woken(w):
             return {"answer": w["answer"], "kiosk": w["kiosk"], "messages": packed(w["messages"]), "timers": packed(w["timers"])}, w["table"]
 
         for c in self.of("again/proofs/Cases", "cases"):
-            yield "again", lambda c=c: woken(wake(c["journal"], c["used"], c["table"])), (c["woken"], c["table-after"])
-            yield "again", lambda c=c: self.replied(say(c["journal"], c["used"], c["table"], c["area"]), "table", "area"), (c["reply"], c["table-after"], c["area-after"])
+            yield "again", lambda c=c: woken(wake(c["journal"], c["used"], c["table"])), (c["woken"], c["table_after"])
+            yield "again", lambda c=c: self.replied(say(c["journal"], c["used"], c["table"], c["area"]), "table", "area"), (c["reply"], c["table_after"], c["area_after"])
 
     def fields(self):
-        kiosk_number, input_number, layout = (self.of("flat/specs/Fields", name) for name in ("kiosk-number", "input-number", "layout"))
+        kiosk_number, input_number, layout = (self.of("flat/specs/Fields", name) for name in ("kiosk_number", "input_number", "layout"))
         path = "examples/specs/Fields"
-        kiosk, given = self.of(path, "numbered"), self.of(path, "numbered-input")
+        kiosk, given = self.of(path, "numbered"), self.of(path, "numbered_input")
         for c in self.of(path, "numbers"):
             yield "fields", lambda c=c: kiosk_number(kiosk, c["field"], c["index"]), c["number"]
-        for c in self.of(path, "input-numbers"):
+        for c in self.of(path, "input_numbers"):
             yield "fields", lambda c=c: input_number(given, c["field"]), c["number"]
         for c in self.of(path, "layouts"):
             yield "fields", lambda c=c: layout(kiosk, c["from"]), c["reply"]
-        board_list, board_again = (self.of("board/specs/Board", name) for name in ("board-list", "board-again"))
+        board_list, board_again = (self.of("board/specs/Board", name) for name in ("board_list", "board_again"))
         for c in self.of(path, "pages"):
-            yield "fields", lambda c=c: board_list(c["journal"], c["text"]), {"page": c["page"], "text": c["text-after"]}
+            yield "fields", lambda c=c: board_list(c["journal"], c["text"]), {"page": c["page"], "text": c["text_after"]}
         for c in self.of(path, "sayings"):
-            yield "fields", lambda c=c: board_again(c["journal"], c["used"], c["table"], c["area"]), {"reply": c["reply"], "table": c["table-after"], "said": c["area-after"]}
+            yield "fields", lambda c=c: board_again(c["journal"], c["used"], c["table"], c["area"]), {"reply": c["reply"], "table": c["table_after"], "said": c["area_after"]}
 
     # the lists hold of the definitions as they are
     def hold(self):

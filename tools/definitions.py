@@ -10,12 +10,15 @@ CRATES = ROOT / "crates"
 # The crates that hold the definitions, and in them what a public promise is made of: these and what they mention are changed.
 DEFINING = "words roll rules journal refusals kiosk again listing flat twins board".split()
 ROOTS = {
-    "kiosk": "Says Opens Makes create put open-journal last-group",
-    "again": "Wakes wake Says-again say-again",
+    "kiosk": "Says Opens Makes create put open_journal last_group",
+    "again": "Wakes wake SaysAgain say_again",
     "listing": "Prints printed listing",
-    "flat": "kiosk-number input-number layout",
-    "board": "Creates board-create Opens board-open Says-again board-again Says board-put last-part Lists board-list",
+    "flat": "kiosk_number input_number layout",
+    "board": "Creates board_create Opens board_open SaysAgain board_again Says board_put last_part Lists board_list",
 }
+
+# The file of what the contracts of inner functions are written in.
+IN_CONTRACTS = "InContracts"
 
 # Fields are taken for each other where antt sees one type: a ℕ for any other. In a struct with more fields than this, only where the
 # code declares one type.
@@ -31,7 +34,7 @@ class Unreadable(Exception):
 WORD = r"«[^»]*»|[^\s(){}\[\];.]+"
 TOKEN = re.compile(rf"--[^\n]*|\[\]|[(){{}}\[\];]|\.(?:{WORD})|{WORD}|\.")
 # Loosest first; what is in one row is not told apart.
-OPERATORS = [["→", "×", "⊎"], ["≡", "≤", "<"], ["||"], ["&&"], ["∷", "++"], ["+", "-"], ["*", "/", "%"], ["^"]]
+OPERATORS = [["→", "×", "⊎"], ["≡", "≢", "≤", "<", "=="], ["||"], ["&&"], ["∷", "++"], ["+", "-"], ["*", "/", "%"], ["^"]]
 OPERATOR = {word for row in OPERATORS for word in row}
 STOP = {None, "(", "{", "[", ")", "}", "]", ";", "then", "else", "in", "|", "↦", "=", ":"}
 
@@ -43,8 +46,9 @@ def tokens_of(text):
     return [Token(m.group(), m.start(), m.end(), m.start() - text.rfind("\n", 0, m.start()) - 1) for m in found]
 
 
-# kind: name, number, field (a projection), paren, apply, chain (operands of one operator), if, let, lambda, elim, record. `names` are
-# what a let or a lambda binds, the patterns of an elim, the fields of a record, the operators of a chain.
+# kind: name, number, field (of a projection), paren, apply, chain (operands of one operator), if, let, lambda, elim, record. A projection
+# `k.state.log` is an apply of `k` to its fields. `names` are what a let or a lambda binds, the patterns of an elim, the fields of a record,
+# the operators of a chain.
 class Node:
     def __init__(self, kind, start, end, parts=(), text="", names=()):
         self.kind, self.start, self.end, self.parts, self.text, self.names = kind, start, end, list(parts), text, list(names)
@@ -53,9 +57,10 @@ class Node:
         return self.kind == "apply" and self.parts[0].text == name
 
 
+# `modules` are the names under which a file brings in whole files: what follows such a name and a dot is no field.
 class Reader:
-    def __init__(self, tokens):
-        self.tokens, self.at = tokens, 0
+    def __init__(self, tokens, modules=()):
+        self.tokens, self.modules, self.at = tokens, modules, 0
 
     def peek(self):
         return self.tokens[self.at].text if self.at < len(self.tokens) else None
@@ -117,7 +122,18 @@ class Reader:
             parts.append(self.after("↦"))
         return Node("elim", start, self.take("]").end, parts, names=patterns)
 
+    # an atom with the fields that stand right behind it
     def atom(self):
+        parts = [self.bare()]
+        while parts[0].kind != "number" and self.is_tight(parts[-1].end):
+            token = self.take()
+            parts.append(Node("field", token.start, token.end, text=token.text))
+        return parts[0] if len(parts) == 1 else Node("apply", parts[0].start, parts[-1].end, parts)
+
+    def is_tight(self, end):
+        return self.at < len(self.tokens) and self.tokens[self.at].start == end and len(self.peek()) > 1 and self.peek().startswith(".")
+
+    def bare(self):
         token = self.take()
         if token.text == "(":
             inner = self.expression()
@@ -133,10 +149,9 @@ class Reader:
             return Node("record", token.start, self.take("}").end, values, names=names)
         if token.text in STOP | OPERATOR:
             raise Unreadable(f"`{token.text}` begins nothing")
-        kind = "number" if token.text.isdigit() else "field" if token.text.startswith(".") else "name"
-        if kind == "name" and self.at < len(self.tokens) and self.tokens[self.at].start == token.end and self.peek().startswith("."):
-            return Node(kind, token.start, self.take().end, text=token.text + self.tokens[self.at - 1].text)  # a name with its file's
-        return Node(kind, token.start, token.end, text=token.text)
+        if token.text in self.modules and self.is_tight(token.end):
+            return Node("name", token.start, self.take().end, text=token.text + self.tokens[self.at - 1].text)  # a name with its file's
+        return Node("number" if token.text.isdigit() else "name", token.start, token.end, text=token.text)
 
 
 def grouped(operands, operators):
@@ -181,13 +196,14 @@ class File:
         self.definitions = {}
         uses = list(re.finditer(r"^use (\S+)\.\{([^}]*)\}$", self.text, re.M))
         self.imports = {name: m[1] for m in uses for name in m[2].split(", ")}
+        self.modules = {name: module for module, name in re.findall(r"^use (\S+) as (\w+)$", self.text, re.M)}
         self.after_uses = uses[-1].end() if uses else 0
 
     def line(self, place):
         return self.text.count("\n", 0, place) + 1
 
 
-DECLARED = re.compile(r"^(?:#\[[^\n]*\]\n)?pub (struct|enum) (\w+)(?: \{\n(.*?)^\}|\(([^\n]*)\);)", re.M | re.S)
+DECLARED = re.compile(r"^(?:#\[[^\n]*\]\n)*pub (struct|enum) (\w+)(?: \{\n(.*?)^\}|\(([^\n]*)\);)", re.M | re.S)
 NAMED = re.compile(r"^pub type (\w+) = ([^;\n]*; \d+\]);", re.M)
 
 
@@ -200,12 +216,16 @@ def limits():
     return found
 
 
+USES = re.compile(r"^use (\w+)::(?:(\w+)|\{([^}]*)\});", re.M)
+
+
 # what a crate's code declares, with no code: its uses of types, its structs and enums and its names for arrays, with each limit as its number
 def declarations(crate):
     known = limits()
     code = re.sub(r"; (\w+::\w+)\]", lambda m: f"; {known.get(m[1], m[1])}]", (CRATES / crate / "src" / "lib.rt").read_text())
     types = [m.group() for m in sorted([*DECLARED.finditer(code), *NAMED.finditer(code)], key=lambda m: m.start())]
-    return "\n".join(re.findall(r"^use \w+::[A-Z]\w*;", code, re.M) + types) + "\n"
+    used = [(m[1], name) for m in USES.finditer(code) if m[1] in DEFINING for name in re.findall(r"\w+", m[2] or m[3]) if name[0].isupper()]
+    return "\n".join([f"use {other}::{name};" for other, name in used] + types) + "\n"
 
 
 # All definitions. Structs, plain records and enums go by `crate.Name`: `fields` has each field's type as antt sees it, `widths` those
@@ -215,7 +235,8 @@ class Specs:
         self.files, self.fields, self.widths, self.variants, self.arrays = {}, {}, {}, {}, {}
         for crate in DEFINING:
             self.read_types(crate, declarations(crate))
-            for name in re.findall(r"^pub mod ([A-Z]\w*)$", (CRATES / crate / "specs" / "Lib.antt").read_text(), re.M):
+            named = re.findall(r"^pub mod (\w+)$", (CRATES / crate / "specs" / "Lib.antt").read_text(), re.M)
+            for name in [name for name in named if name != IN_CONTRACTS]:
                 file = File(f"{crate}/specs/{name}.antt")
                 self.files[file.path] = file
                 self.read_items(file, tokens_of(file.text), 0)
@@ -240,7 +261,7 @@ class Specs:
                 self.variants[names[name]] = {v: [seen(t) for t in types.split(", ") if t] for v, types in carried}
                 continue
             listed = re.findall(r"pub (\w+): ([^,\n]+),", body) if block else enumerate(re.findall(r"pub (\w+)", body))
-            listed = {f"«{f}»" if "_" in str(f) else str(f): t for f, t in listed}
+            listed = {str(f): t for f, t in listed}
             self.fields[names[name]] = {f: seen(t) for f, t in listed.items()}
             if len(listed) > LONG:
                 self.widths[names[name]] = listed
@@ -271,7 +292,7 @@ class Specs:
             (self.read_record if words[0] == "record" else self.read_data)(made, split(item[2:where], ":")[0], rows)
         elif len(split(item, "=")) > 1:
             left, right = split(item, "=", 1)
-            file.definitions[words[0]].bodies.append((Reader(left).whole(), Reader(right).whole()))
+            file.definitions[words[0]].bodies.append((Reader(left, file.modules).whole(), Reader(right, file.modules).whole()))
         else:
             _, type_ = split(item, ":", 1)
             made = file.definitions[words[0]] = Definition(file, words[0], "function")
@@ -290,7 +311,7 @@ class Specs:
             made.parameters.update({name: [self.type_text(made.file, type_[0])] for name in words_of(names)})
         fields = [split(row[1:] if row[0].text == "pub" else row, ":") for row in rows]
         if made.parameters:
-            made.bodies = [(Reader(name).whole(), Reader(type_).whole()) for name, type_ in fields]
+            made.bodies = [(Reader(name).whole(), Reader(type_, made.file.modules).whole()) for name, type_ in fields]
         else:
             made.mentions += [word for _, type_ in fields for word in words_of(type_)]
             self.fields[f"{made.file.crate}.{made.name}"] = {name[0].text: self.type_text(made.file, type_) for name, type_ in fields}
@@ -311,8 +332,8 @@ class Specs:
 
     # what a name stands for in a file: a Definition; the `crate.Name` of a struct or an enum; None for a name of the library
     def resolve(self, file, name):
-        module = re.fullmatch(r"Rattle·(\w+)(?:·specs\.specs|\.specs)\.(.+)", file.imports.get(name, ""))
-        if name in file.definitions or not module:
+        module = re.fullmatch(r"Rattle\.(\w+)\.specs\.(.+)", file.imports.get(name, ""))
+        if name in file.definitions or not module or not (CRATES / module[1]).is_dir():
             return file.definitions.get(name)
         if module[2].startswith("declared."):
             return f"{module[1]}.{module[2].split('.')[1]}"
@@ -344,7 +365,7 @@ def bound_names(pattern):
 def free_names(node, bound):
     if node.kind == "name":
         return [] if node.text in bound else [node.text]
-    names = ["if_then_else_"] if node.kind == "if" else []
+    names = ["if◌then◌else◌"] if node.kind == "if" else []
     for k, part in enumerate(node.parts):
         here = node.names if node.kind in ("let", "lambda") else bound_names(node.names[k - 1]) if node.kind == "elim" and k else []
         names += free_names(part, bound | set(here))

@@ -27,9 +27,9 @@ USED = {"roll": ["Examples"], "rules": ["Whole", "Stories"], "journal": ["Journa
 FIRST = {"examples": ["Board", "Told", "ToldSo"]}
 OTHERS = {"rules": ["After"], "again": ["Cases"], "listing": ["AsText"], "examples": ["MadeUpSo", "FieldsSeen"]}
 
-# Names of the library that a change may bring into a file, with their modules; and which arguments of its functions are a ℕ.
-LIBRARY = {"ltb": "lib.Dec", "leb": "lib.Dec", **dict.fromkeys(["true", "false", "not", "_&&_", "_||_"], "mathlib.Core.Bool")}
-NUMBERS_OF = {"getD": [1], "set": [1, 2], "take": [0], "drop": [0], "replicate": [0]}
+# Names of the library that a change may bring into a file, with their module; and which arguments of its functions are a ℕ.
+LIBRARY = dict.fromkeys(["ltb", "leb", "true", "false", "not", "◌&&◌", "◌||◌"], "Rattle.std.specs.Prelude")
+NUMBERS_OF = {"get_or": [1], "set": [1, 2], "take": [0], "drop": [0], "replicate": [0]}
 
 # The longest that a check may take, in seconds; and how many mutants of one file a worker takes at a time.
 PATIENCE = 300
@@ -226,7 +226,7 @@ class Changes:
         joined = self.source(parts[0])
         for a, b in zip(parts, parts[1:]):
             joined += self.file.text[a.end : b.start].replace(node.text, other) + self.source(b)
-        self.change("chain", node.start, node.end, joined, f"`{node.text}` to `{other}` after `{self.shown(parts[0])}`", f"_{other}_")
+        self.change("chain", node.start, node.end, joined, f"`{node.text}` to `{other}` after `{self.shown(parts[0])}`", f"◌{other}◌")
 
     def ladder(self, node, scope):
         test, yes, no = node.parts
@@ -249,7 +249,7 @@ class Changes:
         n, m = self.numeral(n), self.numeral(m)
         return self.shown(x) == self.shown(y) and None not in (n, m) and n != m
 
-    # the number that stands there as a numeral or by a name for one, as `vote-in Prevotes`; else None
+    # the number that stands there as a numeral or by a name for one, as `vote_in Prevotes`; else None
     def numeral(self, node):
         if node.kind == "paren":
             return self.numeral(node.parts[0])
@@ -308,18 +308,19 @@ class Scratch:
 
     def words(self):
         rt = shutil.which("rt")
-        if not rt and "RATTLE_HOME" not in os.environ:
+        if not rt:
             raise SystemExit("mutants: rt, the command of the Rattle kit, is not on the PATH")
-        home = Path(os.environ.get("RATTLE_HOME") or Path(rt).resolve().parent.parent)
-        own = home / "on" / os.uname().machine
-        words = [own / "bin" / "rattle", "check", "--crate-name", LISTS_CRATE, self.crates / LISTS_CRATE / "src" / "lib.rt"]
-        words += ["--extern", f"std={own / 'rlib' / 'std.rlib'}", "-L", f"dependency={own / 'rlib'}"]
+        kit = Path(rt).resolve().parent.parent
+        words = [kit / "bin" / "rattle", "check", "--crate-name", LISTS_CRATE, self.crates / LISTS_CRATE / "src" / "lib.rt"]
+        for name in ("core", "std"):
+            words += ["--extern", f"{name}={kit / 'rlibs' / f'{name}.rlib'}"]
+        words += ["-L", f"dependency={kit / 'rlibs'}"]
         for line in (ROOT / "crates.txt").read_text().splitlines():
             name, _, used = line.partition("#")[0].partition(":")
             if name in DEFINING:
-                used = ",".join(u for u in used.split() if u in DEFINING)
+                used = ",".join(["core", "std", *[u for u in used.split() if u in DEFINING]])
                 words += ["--lib", f"{name}:{used}={self.crates / name / 'src' / 'lib.rt'}"]
-        words += ["--antt-project", home / "logic" / "antt-project.json", "--logic-built", own / "logic-built", "--incremental", self.kept]
+        words += ["--antt-project", kit / "rattle" / "logic" / "antt-project.json", "--logic-built", kit / "logic_built", "--incremental", self.kept]
         return [str(word) for word in words]
 
     # the verdict on what the folder holds now, and what the prover wrote. Only an error in a list, and none elsewhere, is a refusal
@@ -468,7 +469,7 @@ def main():
     parser.add_argument("--jobs", type=int, default=cores, metavar="N", help=f"checks at a time (here {cores} by default, one to a core)")
     parser.add_argument("--prover", action="store_true", help="try every one by the prover: slow")
     parser.add_argument("--list", action="store_true", help="print the mutants and try none")
-    parser.add_argument("names", nargs="*", metavar="NAME", help="only of this file (rules/specs/Rules.antt) or definition (applies-28)")
+    parser.add_argument("names", nargs="*", metavar="NAME", help="only of this file (rules/specs/Rules.antt) or definition (applies_28)")
     asked = parser.parse_args()
 
     specs = Specs()
@@ -478,7 +479,7 @@ def main():
         if not any(name in (m.file.path, m.definition.name) for m in mutants):
             raise SystemExit(f"mutants: `{name}` is neither a file nor a definition of which there is a mutant")
     chosen = [m for m in mutants if not asked.names or {m.file.path, m.definition.name} & set(asked.names)]
-    definitions = [d for file in specs.files.values() for d in file.definitions.values() if not d.name.startswith("the-")]
+    definitions = [d for file in specs.files.values() for d in file.definitions.values() if not d.name.startswith("the_")]
     print(f"a promise reaches {len(reached)} definitions; {len(definitions) - len(reached)} others are not changed", file=sys.stderr)
     if asked.list:
         print(*chosen, f"{len(chosen):,} made", sep="\n")

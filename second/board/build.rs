@@ -1,4 +1,4 @@
-//! Takes the proved library from SLIP_LIB_DIR, or where `rt staticlib board` writes it: links it, or builds served.c with it
+//! Takes the proved library from SLIP_LIB_DIR, or from lib/, where `make staticlib` leaves it: links it, or builds served.c with it
 //! where the processor is not x86-64.
 
 use std::path::{Path, PathBuf};
@@ -7,14 +7,14 @@ use std::process::Command;
 const LINKER: &str = "CARGO_TARGET_X86_64_UNKNOWN_LINUX_GNU_LINKER";
 
 fn main() {
-    let from = std::env::var("SLIP_LIB_DIR").unwrap_or_else(|_| "../../target/staticlib".into());
+    let from = std::env::var("SLIP_LIB_DIR").unwrap_or_else(|_| "../../lib".into());
     let folder = std::path::absolute(Path::new(&from)).expect("a folder");
     let library = folder.join("libboard.a");
     println!("cargo:rerun-if-env-changed=SLIP_LIB_DIR");
     println!("cargo:rerun-if-changed={}", library.display());
     if !library.is_file() {
         panic!(
-            "{} is not there: run `rt staticlib board`, or set SLIP_LIB_DIR",
+            "{} is not there: run `make staticlib`, or set SLIP_LIB_DIR",
             library.display()
         );
     }

@@ -14,13 +14,7 @@ use twins::sent::{flat_done, flat_reply, impossible, input_of};
 use twins::state::{course_of, holds, roll_of};
 
 // A journal with this roll, own seat and height, in the lent area.
-#[unsafe(no_mangle)]
-pub extern "C" fn slip_create(
-    powers: &[u16],
-    own: usize,
-    height: u32,
-    journal: &mut [u8],
-) -> FlatMade
+pub fn slip_create(powers: &[u16], own: usize, height: u32, journal: &mut [u8]) -> FlatMade
     ensures { Creates (board_create powers.now own height journal.old) result journal.new }
 {
     let made = create(powers, own, Height(height), journal);
@@ -32,34 +26,21 @@ pub extern "C" fn slip_create(
 }
 
 // The kiosk whose journal the first `used` bytes of the area are.
-#[unsafe(no_mangle)]
-pub extern "C" fn slip_open(journal: &[u8], used: usize, table: &mut [u64]) -> FlatReply
+pub fn slip_open(journal: &[u8], used: usize, table: &mut [u64]) -> FlatReply
     ensures { Opens (board_open journal.now used table.old) result table.new }
 {
     flat_reply(open(journal, used, table))
 }
 
 // The same, and at the start of the area `said` the messages to send again and the timers to ask for again.
-#[unsafe(no_mangle)]
-pub extern "C" fn slip_again(
-    journal: &[u8],
-    used: usize,
-    table: &mut [u64],
-    said: &mut [u8],
-) -> FlatReply
+pub fn slip_again(journal: &[u8], used: usize, table: &mut [u64], said: &mut [u8]) -> FlatReply
     ensures { SaysAgain (board_again journal.now used table.old said.old) result table.new said.new }
 {
     flat_reply(say_again(journal, used, table, said))
 }
 
 // One input.
-#[unsafe(no_mangle)]
-pub extern "C" fn slip_put(
-    f: FlatKiosk,
-    i: FlatInput,
-    table: &mut [u64],
-    journal: &mut [u8],
-) -> FlatReply
+pub fn slip_put(f: FlatKiosk, i: FlatInput, table: &mut [u64], journal: &mut [u8]) -> FlatReply
     ensures { Says (board_put i f table.old journal.old) result table.new journal.new }
 {
     if !holds(f) {
@@ -73,8 +54,7 @@ pub extern "C" fn slip_put(
 }
 
 // The last whole group, as a part of the lent journal.
-#[unsafe(no_mangle)]
-pub extern "C" fn slip_last(f: FlatKiosk, journal: &[u8]) -> FlatPart
+pub fn slip_last(f: FlatKiosk, journal: &[u8]) -> FlatPart
     ensures { result ≡ last_part f (length journal.now) }
 {
     if f.used <= f.last {
@@ -90,8 +70,7 @@ pub extern "C" fn slip_last(f: FlatKiosk, journal: &[u8]) -> FlatPart
 }
 
 // The listing of a journal's bytes, at the start of the text area.
-#[unsafe(no_mangle)]
-pub extern "C" fn slip_list(b: &[u8], text: &mut [u8]) -> FlatPage
+pub fn slip_list(b: &[u8], text: &mut [u8]) -> FlatPage
     ensures { Lists (board_list b.now text.old) result text.new }
 {
     let page = print_journal(b, text);

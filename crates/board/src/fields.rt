@@ -5,22 +5,19 @@ ghost use Rattle.flat.specs.Fields.{kiosk_number, input_number, layout};
 use flat::fields::{input_number, kiosk_number, layout};
 use flat::{FlatInput, FlatKiosk, FlatReply};
 
-#[unsafe(no_mangle)]
-pub extern "C" fn slip_kiosk_number(f: FlatKiosk, field: usize, index: usize) -> u64
+pub fn slip_kiosk_number(f: FlatKiosk, field: usize, index: usize) -> u64
     ensures { result ≡ kiosk_number f field index }
 {
     kiosk_number(f, field, index)
 }
 
-#[unsafe(no_mangle)]
-pub extern "C" fn slip_input_number(i: FlatInput, field: usize) -> u64
+pub fn slip_input_number(i: FlatInput, field: usize) -> u64
     ensures { result ≡ input_number i field }
 {
     input_number(i, field)
 }
 
-#[unsafe(no_mangle)]
-pub extern "C" fn slip_layout(f: FlatKiosk, first: u8) -> FlatReply
+pub fn slip_layout(f: FlatKiosk, first: u8) -> FlatReply
     ensures { result ≡ layout f first }
 {
     layout(f, first)

@@ -18,7 +18,7 @@ Plays heights of a market: a node process and a real file for each rule-keeping 
   --workers W        heights played at a time (1)
   --page FILE        draws the told height on a page
   --folder DIR       keeps the journals there (else in a folder of TMPDIR that is removed)
-  --node \"COMMAND\"   the node program, words with blanks between (SLIP_NODE, else target/bin/node)
+  --node \"COMMAND\"   the node program, words with blanks between (SLIP_NODE, else crates/node/out/node)
   --write-stories DIR  writes the transcript of each story there
   --help
 

@@ -8,7 +8,7 @@ use std::os::unix::process::CommandExt;
 use std::path::{Path, PathBuf};
 use std::process::{Child, ChildStdin, ChildStdout, Command, Stdio};
 
-/// The words that start the program, as `qemu-x86_64 target/bin/node`.
+/// The words that start the program, as `qemu-x86_64 crates/node/out/node`.
 #[derive(Clone, Debug)]
 pub struct Node(Vec<String>);
 
@@ -51,7 +51,7 @@ const PATIENCE: i32 = 60_000;
 
 /// SLIP_NODE, else the program that rt compiles, as the project's folder has it.
 pub fn usual() -> String {
-    std::env::var("SLIP_NODE").unwrap_or_else(|_| "target/bin/node".into())
+    std::env::var("SLIP_NODE").unwrap_or_else(|_| "crates/node/out/node".into())
 }
 
 impl Node {

@@ -8,7 +8,7 @@ use std::sync::atomic::{AtomicUsize, Ordering};
 /// The launcher. The program beside it is built by `make node`, or by `rt ci`.
 pub fn launcher() -> PathBuf {
     let root = Path::new(env!("CARGO_MANIFEST_DIR")).join("../..").canonicalize().expect("the repository");
-    let program = root.join("target/bin/node");
+    let program = root.join("crates/node/out/node");
     assert!(program.exists(), "{} is missing: make node builds it", program.display());
     root.join("bin/node")
 }

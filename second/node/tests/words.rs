@@ -168,7 +168,7 @@ fn read_only_file() {
     // Root writes everywhere, so the launcher and the program go where nobody can read them.
     let folder = Folder::new();
     let root = launcher().parent().unwrap().parent().unwrap().to_path_buf();
-    for part in ["bin/node", "target/bin/node"] {
+    for part in ["bin/node", "crates/node/out/node"] {
         let to = folder.path(part);
         fs::create_dir_all(to.parent().unwrap()).unwrap();
         fs::copy(root.join(part), &to).unwrap();

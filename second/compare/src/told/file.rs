@@ -3,15 +3,15 @@
 const HEAD: &str = "\
 -- Calls with their whole replies, as the second program gives them: written by `make told`.
 use Prim.Native.Nat.{ℕ}
-use mathlib.Core.List.{List, [], _∷_}
-use Rattle·rules.proofs.Whole.{at, spread, table, roll, held, log}
-use Rattle·flat.specs.declared.FlatKiosk.{FlatKiosk}
-use Rattle·flat.specs.declared.FlatInput.{FlatInput}
-use Rattle·flat.specs.declared.FlatReply.{FlatReply}
-use Rattle·flat.specs.declared.FlatMade.{FlatMade}
-use Rattle·flat.specs.declared.FlatPart.{FlatPart}
-use Rattle·examples·specs.specs.Cases.{Call, puts, Opening, opens, Creating, creates, Showing, shows}
-use Rattle·examples·specs.specs.Flat.{input, out, kiosk, reply, refuses, made, part, Calls}
+use mathlib.Core.List.{List, [], ◌∷◌}
+use Rattle.rules.proofs.Whole.{at, spread, table, roll, held, log}
+use Rattle.flat.specs.declared.FlatKiosk.{FlatKiosk}
+use Rattle.flat.specs.declared.FlatInput.{FlatInput}
+use Rattle.flat.specs.declared.FlatReply.{FlatReply}
+use Rattle.flat.specs.declared.FlatMade.{FlatMade}
+use Rattle.flat.specs.declared.FlatPart.{FlatPart}
+use Rattle.examples.specs.Cases.{Call, puts, Opening, opens, Creating, creates, Showing, shows}
+use Rattle.examples.specs.Flat.{input, out, kiosk, reply, refuses, made, part, Calls}
 ";
 
 const FOOT: &str = "
@@ -19,9 +19,9 @@ unfoldable pub told : Calls
 unfolding calls openings creatings showings
 told = record { calls = calls; openings = openings; creatings = creatings; showings = showings }
 
-unfoldable pub the-told : Unit {0}
+unfoldable pub the_told : Unit {0}
 unfolding calls openings creatings showings told
-the-told = tt
+the_told = tt
 ";
 
 /// A list that grows by whole cases, with a line here and there that says what the next ones are about.

@@ -10,7 +10,7 @@ pub const MARKET: &str = env!("CARGO_BIN_EXE_market");
 
 /// The words that start the node; a test without one fails here, and says what to do.
 pub fn command() -> String {
-    let program = Path::new(env!("CARGO_MANIFEST_DIR")).join("../../target/bin/node");
+    let program = Path::new(env!("CARGO_MANIFEST_DIR")).join("../../crates/node/out/node");
     let command = std::env::var("SLIP_NODE").unwrap_or_else(|_| program.display().to_string());
     let program = command
         .split_whitespace()

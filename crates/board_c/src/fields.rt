@@ -1,0 +1,26 @@
+// Numbers by field, for a caller to see that its compiler lays the structs as this library does.
+ghost use Rattle.std.specs.Prelude.{◌≡◌};
+ghost use Rattle.flat.specs.Fields.{kiosk_number, input_number, layout};
+
+use flat::{FlatInput, FlatKiosk, FlatReply};
+
+#[unsafe(no_mangle)]
+pub extern "C" fn slip_kiosk_number(f: FlatKiosk, field: usize, index: usize) -> u64
+    ensures { result ≡ kiosk_number f field index }
+{
+    board::fields::slip_kiosk_number(f, field, index)
+}
+
+#[unsafe(no_mangle)]
+pub extern "C" fn slip_input_number(i: FlatInput, field: usize) -> u64
+    ensures { result ≡ input_number i field }
+{
+    board::fields::slip_input_number(i, field)
+}
+
+#[unsafe(no_mangle)]
+pub extern "C" fn slip_layout(f: FlatKiosk, first: u8) -> FlatReply
+    ensures { result ≡ layout f first }
+{
+    board::fields::slip_layout(f, first)
+}
