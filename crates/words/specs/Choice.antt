@@ -1,5 +1,5 @@
 -- Tests over the numbers below a bound: seats, rounds. Assumes nothing.
-use Rattle.std.specs.Prelude.{ℕ, zero, suc, List, [], ◌∷◌, Bool, true, false, ◌&&◌, ltb, eqb, if◌then◌else◌}
+use Rattle.std.specs.Prelude.{ℕ, zero, suc, List, [], ◌∷◌, Bool, true, ◌&&◌, ltb, eqb, if◌then◌else◌}
 
 -- the test holds at each number below the bound
 unfoldable pub all_below : ℕ → (ℕ → Bool) → Bool

@@ -12,9 +12,9 @@ use Rattle.applies.proofs.when.first_rule.Goals.{Else-applies_22, Start}
 abbrev state : Start → State
 state a = state_of a.args.roll a.args.progress a.args.log.now
 
-not-22 : (e : Else-applies_22) → applies_22 (desk (state e.before.before.before.before.before.before.before.before.before) e.args.table.now) ≡ false
+not_22 : (e : Else-applies_22) → applies_22 (desk (state e.before.before.before.before.before.before.before.before.before) e.args.table.now) ≡ false
 unfolding applies_22
-not-22 e = rw (← e.heard-h.ensures) (sym e.applies_22.ensures ∙ e.if-applies_22.false)
+not_22 e = rw (← e.heard-h.ensures) (sym e.applies_22.ensures ∙ e.if-applies_22.false)
 
 pub returns-then-not-is_running : goal.returns-then-not-is_running
 unfolding first_rule
@@ -30,10 +30,10 @@ pub returns-then-applies_28 : goal.returns-then-applies_28
 unfolding first_rule
 returns-then-applies_28 c =
     let e = sym c.applies_28.ensures ∙ c.if-applies_28.true in
-    rw (← c.is_running.ensures, (ap not c.if-not-is_running.false), not-22 (goal.at.returns-then-applies_28 c).Else-applies_22, e)
+    rw (← c.is_running.ensures, (ap not c.if-not-is_running.false), not_22 (goal.at.returns-then-applies_28 c).Else-applies_22, e)
 
 pub returns : goal.returns
 unfolding first_rule
 returns c =
     let e = sym c.applies_28.ensures ∙ c.if-applies_28.false in
-    rw (c.from_34.ensures, ← c.is_running.ensures, (ap not c.if-not-is_running.false), not-22 (goal.at.returns c).Else-applies_22, e)
+    rw (c.from_34.ensures, ← c.is_running.ensures, (ap not c.if-not-is_running.false), not_22 (goal.at.returns c).Else-applies_22, e)

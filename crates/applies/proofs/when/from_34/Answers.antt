@@ -59,11 +59,11 @@ returns-then-closes-name c =
     let l = c.loop-r in
     let hears = c.heard_in-there.ensures in
     let low : l.r < 16 = omega (arith, c.loop-r-test.true) in
-    let is-good = ap (λ h. good h) hears ∙ l.invariant.1 low in
+    let is_good = ap (λ h. good h) hears ∙ l.invariant.1 low in
     let named = c.proposed-name.ensures in
     let judged = large_for Precommits (state (goal.at.returns-then-closes-name c).Start) c.args.table.now l.r _ hears c.requires.1 c.votes_place.ensures c.is_large_named-closes.ensures in
-    let found = lowest_found 16 _ _ (l.invariant.2 c.args.progress) (closes_so (state (goal.at.returns-then-closes-name c).Start) _ _ hears is-good named judged ∙ c.if-closes-name.true) low in
-    sym (far (goal.at.returns-then-closes-name c).Else-applies_47 ∙ far_49 (state (goal.at.returns-then-closes-name c).Start) c.args.table.now l.r found low (closes_with (state (goal.at.returns-then-closes-name c).Start) _ _ hears is-good named judged c.if-closes-name.true))
+    let found = lowest_found 16 _ _ (l.invariant.2 c.args.progress) (closes_so (state (goal.at.returns-then-closes-name c).Start) _ _ hears is_good named judged ∙ c.if-closes-name.true) low in
+    sym (far (goal.at.returns-then-closes-name c).Else-applies_47 ∙ far_49 (state (goal.at.returns-then-closes-name c).Start) c.args.table.now l.r found low (closes_with (state (goal.at.returns-then-closes-name c).Start) _ _ hears is_good named judged c.if-closes-name.true))
 
 pub overflow_add-r : goal.overflow_add-r
 overflow_add-r c = omega (arith, c.loop-r-test.true)
@@ -79,14 +79,14 @@ loop-r-preserved c =
     let l = c.loop-r in
     let hears = c.heard_in-there.ensures in
     let low : l.r < 16 = omega (arith, c.loop-r-test.true) in
-    let is-good = ap (λ h. good h) hears ∙ l.invariant.1 low in
+    let is_good = ap (λ h. good h) hears ∙ l.invariant.1 low in
     let named = c.proposed-name.ensures in
     let next = c.next_good-r-in-loop-r.ensures in (
       next.1,
       next.3,
       λ v.
           let judged = large_for Precommits (voted (goal.at.loop-r-preserved c).Start v) c.args.table.now l.r _ hears c.requires.1 c.votes_place.ensures c.is_large_named-closes.ensures in
-          let more = lowest_more _ _ (l.invariant.2 v) (closes_so (voted (goal.at.loop-r-preserved c).Start v) _ _ hears is-good named judged ∙ c.if-closes-name.false) in
+          let more = lowest_more _ _ (l.invariant.2 v) (closes_so (voted (goal.at.loop-r-preserved c).Start v) _ _ hears is_good named judged ∙ c.if-closes-name.false) in
           bad_passed (voted (goal.at.loop-r-preserved c).Start v) c.args.table.now _ _ more next.0 next.2,
     )
 

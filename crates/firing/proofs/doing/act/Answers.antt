@@ -18,17 +18,17 @@ use Rattle.rules.specs.Rules.{fire, vote_22, vote_28}
 use Rattle.rules.specs.InContracts.Ready.{midway}
 use Rattle.firing.proofs.doing.act.Goals as goal
 
-prevotes-22 : (roll : Roll) (v : Progress) (l : List ℕ) (t : List ℕ) (os : List Output) (h : Heard) (sheet : ℕ) →
+prevotes_22 : (roll : Roll) (v : Progress) (l : List ℕ) (t : List ℕ) (os : List Output) (h : Heard) (sheet : ℕ) →
     h ≡ told l v.stand.round.0 → sheet ≡ get_or t (proposal_place v.stand.round.0) 0 →
     (if good h && (eqb v.locked.next.0 0 || eqb v.locked.name sheet) then sheet else 0) ≡ vote_22 (midway (state_of roll v l) t os)
 unfolding vote_22
-prevotes-22 roll v l t os h sheet eh es = rw (eh, es)
+prevotes_22 roll v l t os h sheet eh es = rw (eh, es)
 
-prevotes-28 : (roll : Roll) (v : Progress) (l : List ℕ) (t : List ℕ) (os : List Output) (h : Heard) (sheet : ℕ) →
+prevotes_28 : (roll : Roll) (v : Progress) (l : List ℕ) (t : List ℕ) (os : List Output) (h : Heard) (sheet : ℕ) →
     h ≡ told l v.stand.round.0 → sheet ≡ get_or t (proposal_place v.stand.round.0) 0 →
     (if good h && (leb v.locked.next.0 h.valid || eqb v.locked.name sheet) then sheet else 0) ≡ vote_28 (midway (state_of roll v l) t os)
 unfolding vote_28
-prevotes-28 roll v l t os h sheet eh es = rw (eh, es)
+prevotes_28 roll v l t os h sheet eh es = rw (eh, es)
 
 pub start_round-requires : goal.start_round-requires
 start_round-requires c = let p = c.requires in (rw c.in-Line55.is at p.2, p.1)
@@ -43,7 +43,7 @@ returns-in-Line22 c =
     let a = c.args in record {
       does_hearing = λ l t os eh es.
           rw c.in-Line22.is
-          (rw (c.vote_22.ensures, prevotes-22 a.given.roll a.progress l t os a.h a.sheet eh es) at (c.vote.ensures.does a.given.roll l t os));
+          (rw (c.vote_22.ensures, prevotes_22 a.given.roll a.progress l t os a.h a.sheet eh es) at (c.vote.ensures.does a.given.roll l t os));
       round_lt_most_rounds = λ w. c.vote.ensures.round_lt_most_rounds;
     }
 
@@ -53,7 +53,7 @@ returns-in-Line28 c =
     let a = c.args in record {
       does_hearing = λ l t os eh es.
           rw c.in-Line28.is
-          (rw (c.vote_28.ensures, prevotes-28 a.given.roll a.progress l t os a.h a.sheet eh es) at (c.vote-in-Line28.ensures.does a.given.roll l t os));
+          (rw (c.vote_28.ensures, prevotes_28 a.given.roll a.progress l t os a.h a.sheet eh es) at (c.vote-in-Line28.ensures.does a.given.roll l t os));
       round_lt_most_rounds = λ w. c.vote-in-Line28.ensures.round_lt_most_rounds;
     }
 

@@ -12,8 +12,8 @@ use Rattle.rules.specs.Work.{take_in}
 use Rattle.firing.proofs.doing.begin.Goals as goal
 use Rattle.firing.proofs.doing.begin.Goals.{In_default}
 
-late-kind : (k : ℕ) → 1 ≤ k → (k ≡ 1 → ⊥) → (leb 2 k && leb k 4) ≡ false → (k ≡ 5 → ⊥) → (k ≡ 6 → ⊥) → 7 ≤ k
-late-kind k some n1 other n5 n6 =
+late_kind : (k : ℕ) → 1 ≤ k → (k ≡ 1 → ⊥) → (leb 2 k && leb k 4) ≡ false → (k ≡ 5 → ⊥) → (k ≡ 6 → ⊥) → 7 ≤ k
+late_kind k some n1 other n5 n6 =
     by_cases (leb k 4)
     (λ e. absurd (true≢false (rw (le-leb 2 k (omega (arith, some, n1)), e) at other)))
     (λ e. omega (arith, leb-false k 4 e, n5, n6))
@@ -22,7 +22,7 @@ late : (a : In_default) → 7 ≤ a.args.i.kind
 late a =
     let r = a.in_default.in_default-own.rest in
     let p = a.requires in
-    late-kind a.args.i.kind p.3.kind r.0.0.1 p.4 r.0.1 r.1
+    late_kind a.args.i.kind p.3.kind r.0.0.1 p.4 r.0.1 r.1
 
 pub start_round-requires-in_default : goal.start_round-requires-in_default
 start_round-requires-in_default c = let p = c.requires in (omega (arith, p.3.next (late (goal.at.start_round-requires-in_default c).In_default)), p.1)

@@ -4,8 +4,8 @@ use Rattle.firing.proofs.fire.hear.Goals as goal
 
 pub returns-then-kind-eq-PROPOSAL : goal.returns-then-kind-eq-PROPOSAL
 returns-then-kind-eq-PROPOSAL c =
-    let the-note = c.note in
-    hears_proposal _ _ _ c.requires.2 c.if-kind-eq-PROPOSAL.true c.proposal_place.ensures c.mark_proposal.ensures the-note.ensures.0 the-note.ensures.1
+    let the_note = c.note in
+    hears_proposal _ _ _ c.requires.2 c.if-kind-eq-PROPOSAL.true c.proposal_place.ensures c.mark_proposal.ensures the_note.ensures.0 the_note.ensures.1
 
 pub returns-then-kind-eq-PREVOTE : goal.returns-then-kind-eq-PREVOTE
 returns-then-kind-eq-PREVOTE c = hears_prevote _ _ _ c.if-kind-eq-PREVOTE.true c.hear_vote.ensures

@@ -19,5 +19,5 @@ note-requires c =
 
 pub returns : goal.returns
 returns c =
-    let the-note = c.note in
-    hears_vote _ _ _ _ c.requires.2 c.marks_place.ensures c.votes_place.ensures c.mark_vote.ensures the-note.ensures.0 the-note.ensures.1
+    let the_note = c.note in
+    hears_vote _ _ _ _ c.requires.2 c.marks_place.ensures c.votes_place.ensures c.mark_vote.ensures the_note.ensures.0 the_note.ensures.1

@@ -28,10 +28,10 @@ begin-begun-requires c =
 
 pub hear_own-requires : goal.hear_own-requires
 hear_own-requires c =
-    let the-begin = c.begin-begun in
+    let the_begin = c.begin-begun in
     let p = c.requires in
     let w = p.0 in
-    (own_seat _ _ w.ready, says_there the-begin.result the-begin.ensures.round_lt_most_rounds, λ on. none_written p.1 w.ready.places, none_long p.1)
+    (own_seat _ _ w.ready, says_there the_begin.result the_begin.ensures.round_lt_most_rounds, λ on. none_written p.1 w.ready.places, none_long p.1)
 
 pub send-sent-requires : goal.send-sent-requires
 send-sent-requires c = λ w. no_outputs c.none.ensures
@@ -40,12 +40,12 @@ pub fire_any-requires : goal.fire_any-requires
 fire_any-requires c =
     let p = c.requires in
     let w = p.0 in
-    let the-begin = c.begin-begun in
-    (rw w.offered (begin_fires _ _ _ w.ready w.readable w.few c.none.ensures p.1 the-begin.result the-begin.ensures.does_for c.hear_own.ensures c.send-sent.ensures), w.sums)
+    let the_begin = c.begin-begun in
+    (rw w.offered (begin_fires _ _ _ w.ready w.readable w.few c.none.ensures p.1 the_begin.result the_begin.ensures.does_for c.hear_own.ensures c.send-sent.ensures), w.sums)
 
 pub returns : goal.returns
 returns c =
     let p = c.requires in
     let w = p.0 in
-    let the-begin = c.begin-begun in
-    begin_leaves _ _ _ w.ready w.readable w.few c.none.ensures p.1 the-begin.result the-begin.ensures.does_for c.hear_own.ensures c.send-sent.ensures (rw w.offered at c.fire_any.ensures)
+    let the_begin = c.begin-begun in
+    begin_leaves _ _ _ w.ready w.readable w.few c.none.ensures p.1 the_begin.result the_begin.ensures.does_for c.hear_own.ensures c.send-sent.ensures (rw w.offered at c.fire_any.ensures)

@@ -6,11 +6,11 @@ use native.Mathlib.Numerals.{add-one}
 use lib.Dec.{eqb}
 use Rattle.refusals.proofs.possible.held_fits.Goals as goal
 
-both-or-none : (a b : Bool) → beq a b ≡ (if a then b else not b)
-both-or-none true true = refl
-both-or-none true false = refl
-both-or-none false true = refl
-both-or-none false false = refl
+both_or_none : (a b : Bool) → beq a b ≡ (if a then b else not b)
+both_or_none true true = refl
+both_or_none true false = refl
+both_or_none false true = refl
+both_or_none false false = refl
 
 pub returns : goal.returns
-returns c = let h = c.args.h in rw (add-one, both-or-none (eqb h.next.0 0) (eqb h.name 0))
+returns c = let h = c.args.h in rw (add-one, both_or_none (eqb h.next.0 0) (eqb h.name 0))

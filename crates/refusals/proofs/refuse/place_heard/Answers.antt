@@ -11,10 +11,10 @@ use Rattle.rules.specs.State.{marks_of}
 use Rattle.refusals.specs.Refusals.{place_heard}
 use Rattle.refusals.proofs.refuse.place_heard.Goals as goal
 
-by-type : (f : Votes → Bool) (a b : Bool) → (a || b) ≡ true → f (if a then Prevotes else Precommits) ≡ (if a then f Prevotes else if b then f Precommits else false)
-by-type f true b e = refl
-by-type f false true e = refl
-by-type f false false e = absurd (false≢true e)
+by_type : (f : Votes → Bool) (a b : Bool) → (a || b) ≡ true → f (if a then Prevotes else Precommits) ≡ (if a then f Prevotes else if b then f Precommits else false)
+by_type f true b e = refl
+by_type f false true e = refl
+by_type f false false e = absurd (false≢true e)
 
 neither : (a b m n : Bool) → (a || b) ≡ false → (if a then m else if b then n else false) ≡ false
 neither true b m n e = absurd (false≢true (sym e))
@@ -38,4 +38,4 @@ returns c =
     let i = c.args.i in
     λ s t e.
     rw (c.is_marked.ensures, c.marks_of.ensures, c.votes_of.ensures, ← e, sym c.is_proposal.ensures ∙ c.if-is_proposal.false)
-    (by-type (λ q. marked (marks_of q h) i.sender) (eqb i.kind (vote_in Prevotes)) (eqb i.kind (vote_in Precommits)) (sym c.is_vote.ensures ∙ c.if-not-is_vote.false))
+    (by_type (λ q. marked (marks_of q h) i.sender) (eqb i.kind (vote_in Prevotes)) (eqb i.kind (vote_in Precommits)) (sym c.is_vote.ensures ∙ c.if-not-is_vote.false))

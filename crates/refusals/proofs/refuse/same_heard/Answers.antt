@@ -16,9 +16,9 @@ use Rattle.refusals.specs.Refusals.{same_heard}
 use Rattle.refusals.proofs.refuse.same_heard.Goals as goal
 use Rattle.refusals.proofs.refuse.same_heard.Goals.{After-votes_place}
 
-by-type : (f : Votes → Bool) (a : Bool) → f (if a then Prevotes else Precommits) ≡ (if a then f Prevotes else f Precommits)
-by-type f true = refl
-by-type f false = refl
+by_type : (f : Votes → Bool) (a : Bool) → f (if a then Prevotes else Precommits) ≡ (if a then f Prevotes else f Precommits)
+by_type f true = refl
+by_type f false = refl
 
 -- the place of the vote is in the table
 within : (c : After-votes_place) → c.votes_place.result + c.args.i.sender < table_length
@@ -44,4 +44,4 @@ unfolding same_heard
 returns c =
     λ s e.
     rw (c.votes_place.ensures, c.votes_of.ensures, sym c.is_proposal.ensures ∙ c.if-is_proposal.false)
-    (by-type (λ v. eqb (get_or c.args.table.now (vote_place v c.args.i.round.0 c.args.i.sender) 0) c.args.i.name) (eqb c.args.i.kind (vote_in Prevotes)))
+    (by_type (λ v. eqb (get_or c.args.table.now (vote_place v c.args.i.round.0 c.args.i.sender) 0) c.args.i.name) (eqb c.args.i.kind (vote_in Prevotes)))

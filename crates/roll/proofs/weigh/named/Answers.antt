@@ -15,8 +15,8 @@ use Rattle.roll.proofs.weigh.named.Goals as goal
 use Rattle.roll.proofs.weigh.named.Goals.{After-lowest-i, then-table-base, else-table-base}
 
 -- the seat looked at is one of 32
-in-room : (c : After-lowest-i) → c.lowest-i.result < 32
-in-room c =
+in_room : (c : After-lowest-i) → c.lowest-i.result < 32
+in_room c =
     let l = c.loop-rest in
     rw c.lowest-i.ensures (lowest_seat 32 l.rest (omega (arith, c.loop-rest-test.true)) l.invariant.0)
 
@@ -24,16 +24,16 @@ pub loop-rest-init : goal.loop-rest-init
 loop-rest-init c = (omega (arith, c.ranges.marks), λ j. rw (marked_zero j))
 
 pub overflow_add-base : goal.overflow_add-base
-overflow_add-base c = omega (arith, in-room (goal.at.overflow_add-base c).After-lowest-i)
+overflow_add-base c = omega (arith, in_room (goal.at.overflow_add-base c).After-lowest-i)
 
 pub offset_bounds-table-base : goal.offset_bounds-table-base
-offset_bounds-table-base c = omega (arith, in-room (goal.at.offset_bounds-table-base c).After-lowest-i)
+offset_bounds-table-base c = omega (arith, in_room (goal.at.offset_bounds-table-base c).After-lowest-i)
 
 pub bounds-table-base : goal.bounds-table-base
-bounds-table-base c = omega (arith, in-room (goal.at.bounds-table-base c).After-lowest-i)
+bounds-table-base c = omega (arith, in_room (goal.at.bounds-table-base c).After-lowest-i)
 
 pub with_mark-found-requires : goal.with_mark-found-requires
-with_mark-found-requires c = in-room (goal.at.with_mark-found-requires c).After-lowest-i
+with_mark-found-requires c = in_room (goal.at.with_mark-found-requires c).After-lowest-i
 
 pub without_lowest-rest-requires : goal.without_lowest-rest-requires
 without_lowest-rest-requires c = omega (arith, c.loop-rest-test.true)
