@@ -114,11 +114,11 @@ extern "C" {
 /* Stack bytes that a call takes below its caller, its arguments by value among them: measured, with six rules fired in one call, and measured
  * again by `make board`. A memcpy or memset that takes over 128 bytes comes on top. */
 #define SLIP_STACK_CREATE 512
-#define SLIP_STACK_OPEN 9760
-#define SLIP_STACK_AGAIN 12320
-#define SLIP_STACK_PUT 9296
+#define SLIP_STACK_OPEN 5424
+#define SLIP_STACK_AGAIN 7728
+#define SLIP_STACK_PUT 4800
 #define SLIP_STACK_LAST 512
-#define SLIP_STACK_LIST 17248
+#define SLIP_STACK_LIST 13456
 
 /* What a call answers. */
 enum slip_number {

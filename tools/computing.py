@@ -43,6 +43,8 @@ LIBRARY = {
     "set": put_at,
     "replicate": lambda n, x: (x,) * n,
     "map": lambda f, l: tuple(f(x) for x in l),
+    "is_some": lambda o: o[0] == "Some",
+    "tt": (),
 }
 OPERATORS = {
     "+": "({} + {})",

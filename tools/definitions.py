@@ -20,6 +20,9 @@ ROOTS = {
 # The file of what the contracts of inner functions are written in.
 IN_CONTRACTS = "InContracts"
 
+# The enums of the library that definitions use, with what each variant carries; where that is a type of the definition's own, None.
+LIBRARY_VARIANTS = {"std.Option": {"None": [], "Some": [None]}, "std.Result": {"Ok": [None], "Err": [None]}}
+
 # Fields are taken for each other where antt sees one type: a ℕ for any other. In a struct with more fields than this, only where the
 # code declares one type.
 LONG = 8
@@ -232,7 +235,7 @@ def declarations(crate):
 # of a long struct as the code declares them, `variants` the types that each variant carries, `arrays` the type that is named.
 class Specs:
     def __init__(self):
-        self.files, self.fields, self.widths, self.variants, self.arrays = {}, {}, {}, {}, {}
+        self.files, self.fields, self.widths, self.variants, self.arrays = {}, {}, {}, dict(LIBRARY_VARIANTS), {}
         for crate in DEFINING:
             self.read_types(crate, declarations(crate))
             named = re.findall(r"^pub mod (\w+)$", (CRATES / crate / "specs" / "Lib.antt").read_text(), re.M)

@@ -16,7 +16,7 @@ import threading
 from pathlib import Path
 
 from computing import Cases
-from definitions import CRATES, DEFINING, ROOT, Definition, Specs, Unreadable, declarations
+from definitions import CRATES, DEFINING, IN_CONTRACTS, ROOT, Definition, Specs, Unreadable, declarations
 
 EQUIVALENT = ROOT / "tools" / "mutants.txt"
 
@@ -81,8 +81,11 @@ class Changes:
         elif pattern.kind == "name" and pattern.text not in self.carried:
             scope[pattern.text] = type_ and [type_]
         elif pattern.kind == "apply":
-            for part, carried in zip(pattern.parts[1:], self.carried[pattern.parts[0].text]):
-                self.bind(part, carried, scope)
+            name = pattern.parts[0].text
+            option = re.match(r"Option (.*)", type_ or "") if name == "Some" else None
+            carried = [option[1]] if option else self.specs.variants.get(type_, {}).get(name, self.carried[name])
+            for part, of_part in zip(pattern.parts[1:], carried):
+                self.bind(part, of_part, scope)
         elif pattern.kind == "chain":
             for part in pattern.parts[:-1]:
                 self.bind(part, re.sub(r"^List (?:\( (.*) \)|(.*))$", r"\1\2", type_), scope)
@@ -171,9 +174,10 @@ class Changes:
         if node.text == "zero":
             self.change("number", node.start, node.end, "1")
         others = {"true": ["false"], "false": ["true"]}.get(node.text, [])
-        for variants in self.specs.variants.values():
+        owner = self.specs.resolve(self.file, node.text)
+        for type_, variants in self.specs.variants.items():
             bare = [v for v, carried in variants.items() if not carried]
-            if node.text in bare:
+            if node.text in bare and owner in (None, type_):
                 others = next_of(node.text, bare)
         for other in others:
             self.change("variant", node.start, node.end, other, name=other, module=self.file.imports.get(node.text))
@@ -295,7 +299,9 @@ class Scratch:
         self.crates, self.kept = folder / "crates", folder / "kept"
         for crate in [*DEFINING, LISTS_CRATE]:
             here, there = CRATES / crate, self.crates / crate
-            shutil.copytree(here / "specs", there / "specs")
+            shutil.copytree(here / "specs", there / "specs", ignore=shutil.ignore_patterns(IN_CONTRACTS, f"{IN_CONTRACTS}.antt"))
+            named = there / "specs" / "Lib.antt"
+            named.write_text(named.read_text().replace(f"pub mod {IN_CONTRACTS}\n", ""))
             (there / "src").mkdir()
             (there / "src" / "lib.rt").write_text(declarations(crate))
             proofs = USED.get(crate, []) + lists.get(crate, [])

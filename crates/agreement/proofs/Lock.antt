@@ -6,7 +6,6 @@ use mathlib.Core.Logic.{◌≢◌, ◌⊎◌, inl, inr, ⊎_elim}
 use mathlib.Core.List.{List, [], ◌∷◌, ◌++◌}
 use native.Mathlib.Omega.{arith}
 use Rattle.words.specs.Members.{In}
-use Rattle.words.proofs.Choice.{zero_one}
 use Rattle.words.proofs.Members.{InSplit, InLast}
 use Rattle.agreement.specs.Moves.{Out, prevote, precommit, settled, View, SameLock, NoVote, Move, waits, enter, prevote_nil, prevote_new, prevote_old, precommit_nil, precommit_sheet, settle, Kept}
 
@@ -29,13 +28,13 @@ settled_name : {r w r' w' : ℕ} → settled r w ≡ settled r' w' → w ≡ w'
 settled_name e = cc
 
 prevote≢precommit : {r w r' w' : ℕ} → prevote r w ≡ precommit r' w' → ⊥
-prevote≢precommit e = zero_one (cc)
+prevote≢precommit e = cc
 
 prevote≢settled : {r w r' w' : ℕ} → prevote r w ≡ settled r' w' → ⊥
-prevote≢settled e = zero_one (cc)
+prevote≢settled e = cc
 
 precommit≢settled : {r w r' w' : ℕ} → precommit r w ≡ settled r' w' → ⊥
-precommit≢settled e = zero_one (cc)
+precommit≢settled e = cc
 
 module _ (PV PC : ℕ → ℕ → Type 0) (a b : View) (os o : List Out) (k : Kept PV PC a os) where
   -- no new vote: what was said was said before, and the clock did not go back

@@ -10,7 +10,7 @@ use lib.Dec.{ltb}
 use lib.ListN.{length, take}
 use borrow.Author.Tests.{ltb-true, lt-ltb}
 use Rattle.words.specs.Members.{In}
-use Rattle.words.proofs.Choice.{and_left, and_right, zero_one}
+use Rattle.words.proofs.Choice.{and_left, and_right}
 use Rattle.agreement.specs.Weigh.{Scale, Seats}
 use Rattle.agreement.specs.Moves.{Out, settled}
 use Rattle.agreement.specs.Honest.{Arrived, Honest}
@@ -35,8 +35,8 @@ module _ {e : Engine} {ps : Scale} {own : ℕ} (law : Lawful e ps own) where
     on_so {m} {d} eb = go q
       where
         go : Holds law b h → (m ≡ law.memory h) × (d ≡ law.file h)
-        go (unmade d' e' u eh) = absurd (zero_one (cc))
-        go (left d' e' l) = absurd (zero_one (cc))
+        go (unmade d' e' u eh) = absurd (cc)
+        go (left d' e' l) = absurd (cc)
         go (powered e') = (cc, cc)
 
     -- without power it has a file that a cut can leave
@@ -50,7 +50,7 @@ module _ {e : Engine} {ps : Scale} {own : ℕ} (law : Lawful e ps own) where
         go (left d' e' l) =
             let ed : d' ≡ d = cc in
             inr (subst (law.Left h) ed l)
-        go (powered e') = absurd (zero_one (cc))
+        go (powered e') = absurd (cc)
 
     -- and opening gives the memory and the file of its history
     pub opened_so : {d : List ℕ} {m : e.Mem} {n : ℕ} → b ≡ off d → e.opens d (opened m n) → (m ≡ law.memory h) × (take n d ≡ law.file h)
@@ -58,7 +58,7 @@ module _ {e : Engine} {ps : Scale} {own : ℕ} (law : Lawful e ps own) where
         ⊎_elim
         (λ u.
         let eo : opened m n ≡ no_header = law.unmade_opens d u.0 (opened m n) op in
-        absurd (zero_one (cc)))
+        absurd (cc))
         (λ l.
         let o = law.left_opens h d l (opened m n) op in
         let eo : opened m n ≡ opened (law.memory h) o.0 = o.1 in
@@ -73,7 +73,7 @@ module _ {e : Engine} {ps : Scale} {own : ℕ} (law : Lawful e ps own) where
         (λ l.
         let o = law.left_opens h d l no_header op in
         let eo : no_header ≡ opened (law.memory h) o.0 = o.1 in
-        absurd (zero_one (cc)))
+        absurd (cc))
         (off_so eb)
 
     wake_holds : {b' : Board e.Mem} {d : List ℕ} {m : e.Mem} {n : ℕ} → b ≡ off d → e.opens d (opened m n) → b' ≡ on m (take n d) → Holds law b' h

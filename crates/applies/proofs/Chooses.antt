@@ -1,120 +1,74 @@
 -- The rounds that rules 49 and 55 look for: which of them close, and which call. Assumes nothing.
-use Rattle.std.specs.Bool.{if◌then◌else◌}
-use Prim.Native.Nat.{ℕ, zero, suc, pred, ◌+◌, ◌-◌, ◌≤◌, ◌<◌}
-use mathlib.Core.Path.{◌≡◌, refl, subst}
-use mathlib.Core.List.{List}
-use mathlib.Core.Bool.{Bool, true, false, ◌&&◌, not}
-use mathlib.Core.Logic.{⊎_elim}
-use native.Mathlib.Nat.{eq-or-lt_of_le}
+use Rattle.std.specs.Prelude.{Option, Some, None, MatchOption, IsSomeAnd}
+use Prim.Native.Nat.{ℕ, suc, ◌+◌, ◌≤◌, ◌<◌}
+use mathlib.Core.Path.{◌≡◌, sym, ◌∙◌}
+use mathlib.Core.Bool.{true, false, not, ◌&&◌}
 use native.Mathlib.Omega.{arith}
 use borrow.Author.Tests.{lt-ltb, le-ltb, le-leb, eqb-true}
 use lib.Dec.{eqb, ltb}
-use lib.ListN.{get_or}
-use Rattle.words.specs.Choice.{lowest_below, past_highest_below, first_of}
-use Rattle.words.proofs.Choice.{highest_none, and_left, and_right, and_false}
+use Rattle.words.specs.Choice.{past_highest_below}
+use Rattle.std.proofs.lemmas.Option.{none-some, same_Some}
+use Rattle.words.proofs.Choice.{by_cases, highest_none, and_left, and_right, and_false}
 use Rattle.words.proofs.MarkLaws.{marked_zero}
+use Rattle.roll.specs.declared.Round.{Round}
 use Rattle.roll.specs.Weighing.{some, total_of}
 use Rattle.roll.proofs.Weighing.{power_none}
-use Rattle.rules.specs.declared.Votes.TheVariants.{Precommits}
-use Rattle.rules.specs.declared.Heard.{Heard}
-use Rattle.rules.specs.declared.Rule.TheVariants.{Nothing, Line49, Line55}
-use Rattle.rules.specs.declared.State.{State}
-use Rattle.rules.specs.State.{unheard, good}
-use Rattle.rules.specs.Log.{Desk, desk, told, proposal_place, good_sheets, power_for, message_power}
+use Rattle.rules.specs.declared.Rule.{Rule}
+use Rattle.rules.specs.declared.Rule.TheVariants.{Line49, Line55}
+use Rattle.rules.specs.State.{unheard}
+use Rattle.rules.specs.Log.{Desk, heard, message_power}
 use Rattle.rules.specs.Doing.{current}
-use Rattle.rules.specs.Rules.{is_large, closing_sheet, closing_round, applies_49, calls, past_calling_round, applies_55, from_49}
+use Rattle.rules.specs.Rules.{applies_49, calls, applies_55, from_49}
+use Rattle.applies.specs.InContracts.Found.{named, is_lowest_closing, is_highest_calling}
 
--- rounds passed from one on: a test that fails at each of them and at the next fails at one more
-pub none_more : (p : ℕ → Bool) (from k : ℕ) → ((q : ℕ) → from ≤ q → q < k → p q ≡ false) → p k ≡ false
-    → (q : ℕ) → from ≤ q → q < k + 1 → p q ≡ false
-none_more p from k none fails q h l =
-    ⊎_elim (λ same. rw same fails) (λ less. none q h less) (eq-or-lt_of_le {n = q} {m = k} (omega arith))
+-- a round that none of its messages is heard of does not call
+pub unheard_calls_not : (d : Desk) (r : ℕ) → unheard (heard d r) ≡ true → calls d r ≡ false
+unfolding calls message_power
+unheard_calls_not d r none =
+    let h = heard d r in
+    let a = eqb h.proposal 0 in
+    let b = eqb h.prevotes 0 in
+    let c = eqb h.precommits 0 in
+    let ab = and_left (a && b) c none in
+    let p : h.proposal ≡ 0 = eqb-true h.proposal 0 (and_left a b ab) in
+    let v : h.prevotes ≡ 0 = eqb-true h.prevotes 0 (and_right a b ab) in
+    let w : h.precommits ≡ 0 = eqb-true h.precommits 0 (and_right (a && b) c none) in
+    let weightless : message_power d r ≡ 0 = power_none d.state.roll.powers _ d.state.roll.kiosks (λ i l. rw (p, v, w, marked_zero i)) in
+    and_false (ltb (current d) r) (some (total_of d.state.roll) (message_power d r)) (λ l. rw weightless (le-ltb (total_of d.state.roll) 0 (omega arith)))
 
--- and where it fails at each below and at each of them, there is no lowest
-pub lowest_on : (n k : ℕ) (p : ℕ → Bool) → lowest_below k p ≡ k → k ≤ n → ((q : ℕ) → k ≤ q → q < n → p q ≡ false) → lowest_below n p ≡ n
-unfolding lowest_below
-lowest_on zero k p none h fails = refl
-lowest_on (suc n) k p none h fails =
-    ⊎_elim
-    (λ same. subst (λ (m : ℕ). lowest_below m p ≡ m) same none)
-    (λ less. rw (lowest_on n k p none (omega arith) (λ q i l. fails q i (omega arith)), le-ltb n n (omega arith), fails n (omega arith) (omega arith)))
-    (eq-or-lt_of_le {n = k} {m = suc n} h)
-
-sheet_named : (b : Bool) (name : ℕ) → not (eqb (if b then name else 0) 0) ≡ (b && not (eqb name 0))
-sheet_named true name = refl
-sheet_named false name = refl
-
--- what the log says of a round, cheap to ask
-module _ (s : State) (t : List ℕ) (r : ℕ) {h : Heard} (e : h ≡ told s.log r) where
-  -- without a good proposal it does not close
-  pub bad_closes_not : good h ≡ false → not (eqb (closing_sheet (desk s t) r) 0) ≡ false
-  unfolding closing_sheet good_sheets first_of
-  bad_closes_not fails = rw (← e, fails)
-
-  -- with one, it closes where the precommits for its name, which is not 0, are large
-  module _ {name : ℕ} {b : Bool} (is_good : good h ≡ true) (named : name ≡ get_or t (proposal_place r) 0)
-      (judged : b ≡ is_large (desk s t) (power_for Precommits (desk s t) r name)) where
-    closing_so : closing_sheet (desk s t) r ≡ (if b then name else 0)
-    unfolding closing_sheet good_sheets first_of
-    closing_so = rw (← e, is_good, ← named, ← judged)
-
-    pub closes_so : not (eqb (closing_sheet (desk s t) r) 0) ≡ (b && not (eqb name 0))
-    closes_so = rw closing_so (sheet_named b name)
-
-    pub closes_with : (b && not (eqb name 0)) ≡ true → closing_sheet (desk s t) r ≡ name
-    closes_with holds = rw (closing_so, and_left b (not (eqb name 0)) holds)
-
-  no_messages : unheard h ≡ true → message_power (desk s t) r ≡ 0
-  unfolding message_power
-  no_messages none =
-      let a = eqb h.proposal 0 in
-      let b = eqb h.prevotes 0 in
-      let c = eqb h.precommits 0 in
-      let ab = and_left (a && b) c none in
-      let p : h.proposal ≡ 0 = eqb-true h.proposal 0 (and_left a b ab) in
-      let v : h.prevotes ≡ 0 = eqb-true h.prevotes 0 (and_right a b ab) in
-      let w : h.precommits ≡ 0 = eqb-true h.precommits 0 (and_right (a && b) c none) in
-      power_none s.roll.powers _ s.roll.kiosks (λ i l. rw (← e, p, v, w, marked_zero i))
-
-  -- where nothing is heard of it, it does not call
-  pub unheard_calls_not : unheard h ≡ true → calls (desk s t) r ≡ false
-  unfolding calls
-  unheard_calls_not none = and_false (ltb (current (desk s t)) r) _ (λ l. rw (no_messages none) (le-ltb (total_of s.roll) 0 (omega arith)))
-
--- line 55: a round ahead calls where its messages have some power
-pub calls_so : (s : State) (t : List ℕ) (r : ℕ) {power total : ℕ} {b : Bool} → s.progress.stand.round.0 < r → power ≡ message_power (desk s t) r
-    → total ≡ total_of s.roll → b ≡ some total power → calls (desk s t) r ≡ b
+-- another round ahead calls where its messages have some power
+pub calls_so : (d : Desk) (r : ℕ) → current d < r → calls d r ≡ some (total_of d.state.roll) (message_power d r)
 unfolding calls
-calls_so s t r ahead weighs whole judged = rw (judged, weighs, whole, lt-ltb s.progress.stand.round.0 r ahead)
+calls_so d r ahead = rw (lt-ltb (current d) r ahead)
 
 -- and no other does
 pub none_calls : (d : Desk) (n : ℕ) → n ≤ current d + 1 → past_highest_below n (λ r. calls d r) ≡ 0
 unfolding calls
 none_calls d n h = highest_none n (λ r. calls d r) (λ r l. rw (le-ltb (current d) r (omega arith)))
 
+-- a name that is found, and one that is not
+pub named_some : (n : ℕ) {x : ℕ} → named n ≡ Some x → (not (eqb n 0) ≡ true) × (n ≡ x)
+named_some n {x} e = by_cases (eqb n 0) (λ y. absurd (none-some x (rw y at e))) (λ f. (rw f, same_Some n x (rw f at e)))
+
+pub named_none : (n : ℕ) → named n ≡ None → not (eqb n 0) ≡ false
+named_none n e = by_cases (eqb n 0) (λ y. rw y) (λ f. absurd (none-some n (sym (rw f at e))))
+
 -- the rules of the whole log, by the rounds found
-module _ (s : State) (t : List ℕ) where
-  -- rounds without a good proposal are passed
-  pub bad_passed : (from r : ℕ) → lowest_below from (λ k. not (eqb (closing_sheet (desk s t) k) 0)) ≡ from → from ≤ r
-      → ((q : ℕ) → from ≤ q → q < r → good (told s.log q) ≡ false) → lowest_below r (λ k. not (eqb (closing_sheet (desk s t) k) 0)) ≡ r
-  bad_passed from r none h bad = lowest_on r from (λ k. not (eqb (closing_sheet (desk s t) k) 0)) none h (λ q i l. bad_closes_not s t q refl (bad q i l))
-
-  pub none_closes : (r : ℕ) → lowest_below r (λ k. not (eqb (closing_sheet (desk s t) k) 0)) ≡ r → r ≤ 16 → 16 ≤ r → closing_round (desk s t) ≡ 16
-  unfolding closing_round
-  none_closes r none l h = let g : r ≡ 16 = omega arith in rw g at none
-
-  pub far_49 : (r : ℕ) {name : ℕ} → closing_round (desk s t) ≡ r → r < 16 → closing_sheet (desk s t) r ≡ name
-      → from_49 (desk s t) ≡ Line49 (record { 0 = r }) name
+module _ (d : Desk) where
+  pub far_49 : {r : Round} {name : ℕ} → is_lowest_closing d (Some (r, name)) → from_49 d ≡ Some (Line49 r name)
   unfolding from_49 applies_49
-  far_49 r found low sheet = rw (found, lt-ltb r 16 low, sheet)
+  far_49 {r} {name} (found, low, sheet) = rw (found, lt-ltb r.0 d.rounds low, sheet)
 
-  pub far_55 : (past : ℕ) → closing_round (desk s t) ≡ 16 → past_calling_round (desk s t) ≡ past → 1 ≤ past
-      → from_49 (desk s t) ≡ Line55 (record { 0 = past - 1 })
+  pub far_55 : {r : Round} → is_lowest_closing d None → is_highest_calling d (Some r) → from_49 d ≡ Some (Line55 r)
   unfolding from_49 applies_49 applies_55
-  far_55 past none found high =
-      let g : pred past ≡ past - 1 = omega arith in
-      rw (none, found, le-leb 1 past high, g)
+  far_55 {r} none found = rw (none, le-ltb d.rounds d.rounds (omega arith), found, le-leb 1 (suc r.0) (omega arith))
 
-  pub far_none : closing_round (desk s t) ≡ 16 → past_calling_round (desk s t) ≡ 0 → from_49 (desk s t) ≡ Nothing
+  pub far_none : is_lowest_closing d None → is_highest_calling d None → from_49 d ≡ None
   unfolding from_49 applies_49 applies_55
-  far_none none nor = rw (none, nor)
+  far_none none nor = rw (none, le-ltb d.rounds d.rounds (omega arith), nor)
+
+  pub far_rest : (found : Option Round) (r : Option Rule) → is_lowest_closing d None → is_highest_calling d found
+      → MatchOption found (r ≡ None) (λ x. IsSomeAnd r (λ y. y ≡ Line55 x)) → r ≡ from_49 d
+  far_rest None r none nor e = e ∙ sym (far_none none nor)
+  far_rest (Some x) None none found e = elim e [ ]
+  far_rest (Some x) (Some y) none found e = rw (far_55 none found, e)

@@ -1,2 +1,2 @@
 -- What the contracts of inner code are written in; no promise speaks of it.
-pub mod Seen
+pub mod Found

@@ -1,204 +1,157 @@
 // When each rule applies, and which is the first. What is cheap to ask is asked before anything is weighed, and the names of votes are
 // read only where the votes under any name are large.
-ghost use Rattle.std.specs.Prelude.{ℕ, ◌<◌, ◌≤◌, ◌≡◌, true, false, ◌&&◌, ◌||◌, not, List, eqb, leb, length, if◌then◌else◌};
+ghost use Rattle.std.specs.Prelude.{◌<◌, ◌≡◌, true, false, ◌&&◌, ◌||◌, not, if◌then◌else◌, Some, None, MatchOption};
 ghost use Rattle.std.specs.Int.Bits.{bit_or};
 ghost use Rattle.words.specs.Marks.{mark};
-ghost use Rattle.roll.specs.Weighing.{most_kiosks, total_of};
-ghost use Rattle.rules.specs.State.{most_rounds, state_of, is_propose, is_prevote, spoken, good};
-ghost use Rattle.rules.specs.Log.{desk, table_length, told};
-ghost use Rattle.rules.specs.Rules.{is_rule, backed_sheet, applies_28, applies_44, applies_47, from_47, from_34, first_rule};
-ghost use Rattle.rules.specs.InContracts.Ready.{Ready};
-ghost use Rattle.applies.specs.InContracts.Seen.{Wherever, large_before};
+ghost use Rattle.roll.specs.Weighing.{most_kiosks};
+ghost use Rattle.rules.specs.State.{most_rounds, is_propose, is_prevote, spoken, good};
+ghost use Rattle.rules.specs.Log.{heard};
+ghost use Rattle.rules.specs.Doing.{current, step};
+ghost use Rattle.rules.specs.Rules.{backed_sheet, closing_sheet, applies_22, applies_28, applies_36, applies_44, applies_47, calls, from_34, from_47, from_49, first_rule};
+ghost use Rattle.rules.specs.InContracts.Lent.{shown, Able, Weighs};
+ghost use Rattle.applies.specs.InContracts.Found.{sheet_for, named, is_lowest_closing, is_highest_calling};
 
-use roll::weigh::{is_large_named, weigh, weigh_named};
-use roll::{Power, Roll, Round};
-use rules::enums::{is_prevote, is_propose, is_rule, is_running, pick};
-use rules::places::{heard, heard_in, is_good, proposed, votes_place};
-use rules::{Heard, Log, Progress, Rule, Stand, State, Votes};
+use roll::Round;
+use rules::desk::Desk;
+use rules::{Heard, Rule, State, Step, Votes};
 use words::marks::{either, with_mark};
 
 // Line 22: the round's proposal, with valid round -1.
-fn applies_22(stand: Stand, h: Heard) -> bool
-    ensures { result ≡ (is_propose stand.step && spoken h && eqb h.valid 0) }
+#[tactic(auto, unfolding(rules::specs::Rules::applies_22))]
+fn applies_22(d: &Desk) -> bool
+    requires { Able d.now }
+    ensures { result ≡ applies_22 (shown d.now) }
 {
-    let step = stand.step;
-    is_propose(step) & (h.proposal != 0) & (h.valid == 0)
+    let stand = &d.progress.stand;
+    let h = d.heard(stand.round);
+    stand.step == Step::Propose && h.is_spoken() && h.valid == 0
 }
 
-// Line 28, all but its weighing: the round's proposal, with a valid round before this one.
-fn proposed_before(stand: Stand, h: Heard) -> bool
-    ensures { result ≡ (is_propose stand.step && spoken h && leb 1 h.valid && leb h.valid stand.round.0) }
+// Line 28: the round's proposal, with a valid round before this one whose prevotes for it are large.
+#[tactic(auto, unfolding(rules::specs::Rules::applies_28))]
+fn applies_28(d: &Desk) -> bool
+    requires { Weighs d.now }
+    ensures { result ≡ applies_28 (shown d.now) }
 {
-    let step = stand.step;
-    is_propose(step) & (h.proposal != 0) & (1 <= h.valid) & (h.valid <= (stand.round.0 as u32))
-}
-
-// Line 28, its weighing: the prevotes of the valid round for the sheet that is proposed now. The roll is copied here alone, where there
-// is something to weigh, and not by what asks.
-fn large_before(
-    progress: Progress,
-    roll: Roll,
-    h: Heard,
-    log: &Log,
-    table: &[u64],
-    total: Power,
-) -> bool
-    requires { Ready (state_of roll progress log.now) table.now × (total.0 ≡ total_of roll) × (1 ≤ h.valid) × (h.valid ≤ progress.stand.round.0) }
-    ensures { result ≡ large_before (desk (state_of roll progress log.now) table.now) h.valid }
-{
-    let before = Round((h.valid - 1) as u8);
-    let there = heard(log, before);
-    let name = proposed(table, progress.stand.round);
-    is_large_named(
-        &roll.powers,
-        roll.kiosks,
-        there.prevotes,
-        table,
-        votes_place(Votes::Prevotes, before),
-        name,
-        total,
-    )
-}
-
-// Line 28.
-fn applies_28(
-    progress: Progress,
-    roll: Roll,
-    h: Heard,
-    log: &Log,
-    table: &[u64],
-    total: Power,
-) -> bool
-    requires { Ready (state_of roll progress log.now) table.now × (total.0 ≡ total_of roll) × (h ≡ told log.now progress.stand.round.0) }
-    ensures { result ≡ applies_28 (desk (state_of roll progress log.now) table.now) }
-{
-    let stand = progress.stand;
-    if !proposed_before(stand, h) {
-        return false;
-    }
-    large_before(progress, roll, h, log, table, total)
-}
-
-// Line 34, all but its weighing.
-fn awaits_prevotes(stand: Stand) -> bool
-    ensures { result ≡ (is_prevote stand.step && not stand.asked.prevote) }
-{
-    let step = stand.step;
-    is_prevote(step) & !stand.asked.prevote
+    let stand = &d.progress.stand;
+    let h = d.heard(stand.round);
+    stand.step == Step::Propose
+        && h.is_spoken()
+        && 1 <= h.valid
+        && h.valid <= u32::from(stand.round.0)
+        && d.is_large_for(
+            Votes::Prevotes,
+            Round((h.valid - 1) as u8),
+            d.proposed(stand.round),
+        )
 }
 
 // Lines 34, 36 and 44, all but their weighing: whether the round's prevotes can make one of them apply.
-fn heeds_prevotes(stand: Stand, h: Heard) -> bool
-    ensures { result ≡ (is_prevote stand.step || (not (is_propose stand.step) && not stand.backed && good h)) }
+fn heeds_prevotes(d: &Desk) -> bool
+    requires { Able d.now }
+    ensures { let s = shown d.now in result ≡ (is_prevote (step s) || (not (is_propose (step s)) && not s.state.progress.stand.backed && good (heard s (current s)))) }
 {
-    let step = stand.step;
-    is_prevote(step) | (!is_propose(step) & !stand.backed & is_good(h.proposal))
+    let stand = &d.progress.stand;
+    match stand.step {
+        Step::Propose => false,
+        Step::Prevote => true,
+        Step::Precommit => !stand.backed && d.heard(stand.round).is_good(),
+    }
 }
 
-// Line 36: the sheet to back, 0 for none and where one is backed.
-fn sheet_to_back(
-    stand: Stand,
-    h: Heard,
-    powers: &[u16; Roll::MOST],
-    kiosks: usize,
-    table: &[u64],
-    total: Power,
-) -> u64
-    requires { (stand.round.0 < most_rounds) × (kiosks ≤ most_kiosks) × (length table.now ≡ table_length) }
-    ensures { Wherever stand h powers.now kiosks total.0 (λ s. result ≡ (if s.progress.stand.backed then 0 else backed_sheet (desk s table.now))) }
+// Line 34, all but its weighing.
+fn awaits_prevotes(d: &Desk) -> bool
+    ensures { let s = shown d.now in result ≡ (is_prevote (step s) && not s.state.progress.stand.asked.prevote) }
 {
-    if stand.backed {
-        return 0;
+    let stand = &d.progress.stand;
+    stand.step == Step::Prevote && !stand.asked.prevote
+}
+
+// The sheet of a round's good proposal, where large votes of a type are for it.
+#[inline(always)]
+fn large_sheet(d: &Desk, v: Votes, r: Round) -> Option<u64>
+    requires { Weighs d.now × (r.0 < most_rounds) }
+    ensures { result ≡ named (sheet_for v (shown d.now) r.0) }
+{
+    if !d.heard(r).is_good() {
+        return None;
     }
-    if !is_good(h.proposal) {
-        return 0;
+    let name = d.proposed(r);
+    if name != 0 && d.is_large_for(v, r, name) {
+        Some(name)
+    } else {
+        None
     }
-    let r = stand.round;
-    let name = proposed(table, r);
-    let power = weigh_named(
-        powers,
-        kiosks,
-        h.prevotes,
-        table,
-        votes_place(Votes::Prevotes, r),
-        name,
-    );
-    pick(power.is_large(total), name, 0)
+}
+
+// Line 36: the sheet to back, where none is backed yet.
+#[tactic(auto, unfolding(rules::specs::Rules::applies_36))]
+fn sheet_to_back(d: &Desk) -> Option<u64>
+    requires { Weighs d.now }
+    ensures { let s = shown d.now in result ≡ (if applies_36 s then Some (backed_sheet s) else None) }
+{
+    let stand = &d.progress.stand;
+    if stand.step == Step::Propose || stand.backed {
+        return None;
+    }
+    large_sheet(d, Votes::Prevotes, stand.round)
 }
 
 // Line 44.
-fn applies_44(
-    stand: Stand,
-    h: Heard,
-    powers: &[u16; Roll::MOST],
-    kiosks: usize,
-    table: &[u64],
-    total: Power,
-) -> bool
-    requires { (stand.round.0 < most_rounds) × (kiosks ≤ most_kiosks) × (length table.now ≡ table_length) }
-    ensures { Wherever stand h powers.now kiosks total.0 (λ s. result ≡ applies_44 (desk s table.now)) }
+#[tactic(auto, unfolding(rules::specs::Rules::applies_44))]
+fn applies_44(d: &Desk) -> bool
+    requires { Weighs d.now }
+    ensures { result ≡ applies_44 (shown d.now) }
 {
-    let step = stand.step;
-    if !is_prevote(step) {
-        return false;
-    }
-    let power = weigh_named(
-        powers,
-        kiosks,
-        h.prevotes,
-        table,
-        votes_place(Votes::Prevotes, stand.round),
-        0,
-    );
-    power.is_large(total)
+    let stand = &d.progress.stand;
+    stand.step == Step::Prevote && d.is_large_for(Votes::Prevotes, stand.round, 0)
 }
 
 // The rules that weigh the prevotes of the current round: 34, 36 and 44.
-fn prevote_rule(
-    stand: Stand,
-    h: Heard,
-    powers: &[u16; Roll::MOST],
-    kiosks: usize,
-    table: &[u64],
-    total: Power,
-) -> Rule
-    requires { (stand.round.0 < most_rounds) × (kiosks ≤ most_kiosks) × (length table.now ≡ table_length) }
-    ensures { Wherever stand h powers.now kiosks total.0 (λ s. let d = desk s table.now in from_34 d ≡ (if is_rule result then result else from_47 d)) }
+fn prevote_rule(d: &Desk) -> Option<Rule>
+    requires { Weighs d.now }
+    ensures { let s = shown d.now in MatchOption result (from_34 s ≡ from_47 s) (λ rule. from_34 s ≡ Some rule) }
 {
-    if !heeds_prevotes(stand, h) {
-        return Rule::Nothing;
+    if !heeds_prevotes(d) {
+        return None;
     }
-    if !weigh(powers, kiosks, h.prevotes).is_large(total) {
-        return Rule::Nothing;
+    if !d.is_large(Votes::Prevotes, d.progress.stand.round) {
+        return None;
     }
-    if awaits_prevotes(stand) {
-        return Rule::Line34;
+    if awaits_prevotes(d) {
+        return Some(Rule::Line34);
     }
-    let name = sheet_to_back(stand, h, powers, kiosks, table, total);
-    if name != 0 {
-        return Rule::Line36(name);
+    if let Some(name) = sheet_to_back(d) {
+        return Some(Rule::Line36(name));
     }
-    if applies_44(stand, h, powers, kiosks, table, total) {
-        return Rule::Line44;
+    if applies_44(d) {
+        return Some(Rule::Line44);
     }
-    Rule::Nothing
+    None
 }
 
 // Line 47.
-fn applies_47(
-    stand: Stand,
-    h: Heard,
-    powers: &[u16; Roll::MOST],
-    kiosks: usize,
-    total: Power,
-) -> bool
-    requires { kiosks ≤ most_kiosks }
-    ensures { Wherever stand h powers.now kiosks total.0 (λ s. (t : List ℕ) → result ≡ applies_47 (desk s t)) }
+#[tactic(auto, unfolding(rules::specs::Rules::applies_47))]
+fn applies_47(d: &Desk) -> bool
+    requires { Weighs d.now }
+    ensures { result ≡ applies_47 (shown d.now) }
 {
-    if stand.asked.precommit {
-        return false;
+    let stand = &d.progress.stand;
+    !stand.asked.precommit && d.is_large(Votes::Precommits, stand.round)
+}
+
+// Line 49: the lowest round with a sheet that can be settled, and the sheet.
+fn closing(d: &Desk) -> Option<(Round, u64)>
+    requires { Weighs d.now }
+    ensures { is_lowest_closing (shown d.now) result }
+{
+    for r in 0..State::ROUNDS {
+        let round = Round(r as u8);
+        if let Some(sheet) = large_sheet(d, Votes::Precommits, round) {
+            return Some((round, sheet));
+        }
     }
-    weigh(powers, kiosks, h.precommits).is_large(total)
+    None
 }
 
 // The senders of any message of a round, each marked once: those of its votes, and of its proposal the seat whose turn it is.
@@ -207,97 +160,79 @@ fn senders(h: Heard, turn: usize) -> u32
     ensures { result ≡ (if spoken h then mark (bit_or h.prevotes h.precommits) turn else bit_or h.prevotes h.precommits) }
 {
     let votes = either(h.prevotes, h.precommits);
-    if h.proposal != 0 {
-        return with_mark(votes, turn);
+    if h.is_spoken() {
+        with_mark(votes, turn)
+    } else {
+        votes
     }
-    votes
 }
 
-// The first round from `from` on whose proposal is heard good; the number of rounds where there is none.
-fn next_good(log: &Log, from: usize) -> usize
-    requires { from ≤ most_rounds }
-    ensures { (from ≤ result) × (result ≤ most_rounds) × ((q : ℕ) → from ≤ q → q < result → good (told log.now q) ≡ false) × (result < most_rounds → good (told log.now result) ≡ true) }
+// Line 55 at a round ahead: whether its messages have some power.
+#[tactic(auto, unfolding(rules::specs::Rules::calls))]
+fn calls(d: &Desk, r: Round) -> bool
+    requires { Weighs d.now × (r.0 < most_rounds) × (d.now.progress.now.stand.round.0 < r.0) }
+    ensures { result ≡ calls (shown d.now) r.0 }
 {
-    let mut next = from;
-    while next < State::ROUNDS {
-        if is_good(log[State::LOG_PER_ROUND * next + 2]) {
-            return next;
-        }
-        next += 1;
-    }
-    next
+    let h = d.heard(r);
+    !h.is_unheard()
+        && d.roll
+            .weigh(senders(h, d.roll.proposer(r)))
+            .is_some(d.total)
 }
 
-// The rules from 34 on, with h heard of the current round: those of that round, and then 49 and 55, that look at the whole log. Of 49's
-// rounds, from the lowest on, one without a good proposal is passed before anything is weighed; of 55's, from the highest down to the
-// next, one of which nothing is heard.
-fn from_34(progress: Progress, roll: Roll, h: Heard, log: &Log, table: &[u64], total: Power) -> Rule
-    requires { Ready (state_of roll progress log.now) table.now × (total.0 ≡ total_of roll) × (h ≡ told log.now progress.stand.round.0) }
-    ensures { result ≡ from_34 (desk (state_of roll progress log.now) table.now) }
+// Line 55: the highest round ahead whose messages have some power.
+fn calling(d: &Desk) -> Option<Round>
+    requires { Weighs d.now }
+    ensures { is_highest_calling (shown d.now) result }
 {
-    let stand = progress.stand;
-    let now = stand.round;
-    let kiosks = roll.kiosks;
-    let rule = prevote_rule(stand, h, &roll.powers, kiosks, table, total);
-    if is_rule(rule) {
-        return rule;
-    }
-    if applies_47(stand, h, &roll.powers, kiosks, total) {
-        return Rule::Line47;
-    }
-    let mut r = next_good(log, 0);
-    while r < State::ROUNDS {
-        let there = heard_in(log, r);
+    for r in (usize::from(d.progress.stand.round.0) + 1..State::ROUNDS).rev() {
         let round = Round(r as u8);
-        let name = proposed(table, round);
-        let closes = is_large_named(
-            &roll.powers,
-            kiosks,
-            there.precommits,
-            table,
-            votes_place(Votes::Precommits, round),
-            name,
-            total,
-        );
-        if closes & (name != 0) {
-            return Rule::Line49(round, name);
+        if calls(d, round) {
+            return Some(round);
         }
-        r = next_good(log, r + 1);
     }
-    let mut past = State::ROUNDS;
-    while (now.0 as usize) + 1 < past {
-        let there = heard_in(log, past - 1);
-        if (there.proposal == 0) & (there.prevotes == 0) & (there.precommits == 0) {
-            past -= 1;
-            continue;
-        }
-        let ahead = Round((past - 1) as u8);
-        let marks = senders(there, roll.proposer(ahead));
-        if weigh(&roll.powers, kiosks, marks).is_some(total) {
-            return Rule::Line55(ahead);
-        }
-        past -= 1;
+    None
+}
+
+// The rules that look at the whole log: 49 and 55.
+fn from_49(d: &Desk) -> Option<Rule>
+    requires { Weighs d.now }
+    ensures { result ≡ from_49 (shown d.now) }
+{
+    if let Some((round, sheet)) = closing(d) {
+        return Some(Rule::Line49(round, sheet));
     }
-    Rule::Nothing
+    calling(d).map(Rule::Line55)
+}
+
+// The rules from 34 on.
+fn from_34(d: &Desk) -> Option<Rule>
+    requires { Weighs d.now }
+    ensures { result ≡ from_34 (shown d.now) }
+{
+    if let Some(rule) = prevote_rule(d) {
+        return Some(rule);
+    }
+    if applies_47(d) {
+        return Some(Rule::Line47);
+    }
+    from_49(d)
 }
 
 // The first rule that applies.
-pub fn first_rule(progress: Progress, roll: Roll, log: &Log, table: &[u64], total: Power) -> Rule
-    requires { Ready (state_of roll progress log.now) table.now × (total.0 ≡ total_of roll) }
-    ensures { result ≡ first_rule (desk (state_of roll progress log.now) table.now) }
+#[tactic(auto, unfolding(rules::specs::Rules::first_rule))]
+pub fn first_rule(d: &Desk) -> Option<Rule>
+    requires { Weighs d.now }
+    ensures { result ≡ first_rule (shown d.now) }
 {
-    let phase = progress.phase;
-    if !is_running(phase) {
-        return Rule::Nothing;
+    if !d.progress.phase.is_running() {
+        return None;
     }
-    let stand = progress.stand;
-    let now = stand.round;
-    let h = heard(log, now);
-    if applies_22(stand, h) {
-        return Rule::Line22;
+    if applies_22(d) {
+        return Some(Rule::Line22);
     }
-    if applies_28(progress, roll, h, log, table, total) {
-        return Rule::Line28;
+    if applies_28(d) {
+        return Some(Rule::Line28);
     }
-    from_34(progress, roll, h, log, table, total)
+    from_34(d)
 }

@@ -8,7 +8,6 @@ use kiosk::calls::create;
 use kiosk::lent::put_lent;
 use opening::open;
 use printing::print_journal;
-use refusals::answers::number_of;
 use roll::Height;
 use twins::sent::{flat_done, flat_reply, impossible, input_of};
 use twins::state::{course_of, holds, roll_of};
@@ -18,9 +17,8 @@ pub fn slip_create(powers: &[u16], own: usize, height: u32, journal: &mut [u8]) 
     ensures { Creates (board_create powers.now own height journal.old) result journal.new }
 {
     let made = create(powers, own, Height(height), journal);
-    let answer = made.answer;
     FlatMade {
-        number: number_of(answer),
+        number: u32::from(made.answer),
         used: made.used,
     }
 }
@@ -46,21 +44,24 @@ pub fn slip_put(f: FlatKiosk, i: FlatInput, table: &mut [u64], journal: &mut [u8
     if !holds(f) {
         return impossible(f);
     }
-    let course = course_of(f);
-    let roll = roll_of(f);
     let mut next = f;
-    let d = put_lent(course, roll, input_of(i), &mut next.log, table, journal);
-    flat_done(next, d)
+    let done = put_lent(
+        course_of(f),
+        roll_of(f),
+        input_of(i),
+        &mut next.log,
+        table,
+        journal,
+    );
+    flat_done(next, done)
 }
 
 // The last whole group, as a part of the lent journal.
+#[tactic(auto, unfolding(crate::specs::Board::last_part))]
 pub fn slip_last(f: FlatKiosk, journal: &[u8]) -> FlatPart
     ensures { result ≡ last_part f (length journal.now) }
 {
-    if f.used <= f.last {
-        return FlatPart { from: 0, count: 0 };
-    }
-    if journal.len() < f.used {
+    if f.used <= f.last || journal.len() < f.used {
         return FlatPart { from: 0, count: 0 };
     }
     FlatPart {
@@ -74,9 +75,8 @@ pub fn slip_list(b: &[u8], text: &mut [u8]) -> FlatPage
     ensures { Lists (board_list b.now text.old) result text.new }
 {
     let page = print_journal(b, text);
-    let answer = page.answer;
     FlatPage {
-        number: number_of(answer),
+        number: u32::from(page.answer),
         size: page.size,
     }
 }

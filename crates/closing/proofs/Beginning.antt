@@ -1,5 +1,6 @@
 -- In a good round each rule-keeping kiosk stands as `Waits` says: by its history, by what the others put out, and since no rule applies.
 -- Assumes nothing.
+use Rattle.std.specs.Prelude.{None}
 use Prim.Native.Nat.{ℕ, ◌+◌, ◌*◌, ◌≤◌, ◌<◌}
 use mathlib.Core.Path.{◌≡◌, sym, ap, subst, ◌∙◌}
 use mathlib.Core.Logic.{◌⊎◌, inl, inr, ⊎_elim}
@@ -20,7 +21,6 @@ use Rattle.roll.proofs.Weighing.{fits_count}
 use Rattle.rules.specs.declared.Votes.{Votes}
 use Rattle.rules.specs.declared.Votes.TheVariants.{Prevotes, Precommits}
 use Rattle.rules.specs.declared.Phase.TheVariants.{Running}
-use Rattle.rules.specs.declared.Rule.TheVariants.{Nothing}
 use Rattle.rules.specs.declared.Step.TheVariants.{Propose}
 use Rattle.rules.specs.State.{most_rounds, marks_of, is_running, spoken}
 use Rattle.rules.specs.Log.{Desk, heard, proposed, voted, power_for}
@@ -116,7 +116,7 @@ module _ {powers : List ℕ} {height : ℕ} {keeps : Seats} (m : Terms powers he
     run : is_running (d i).state.progress.phase ≡ true
     run = rw (s.stands i ki)
 
-    calm : first_rule (d i) ≡ Nothing
+    calm : first_rule (d i) ≡ None
     calm = no_rule told (rw (s.stands i ki))
 
     idle : Idle (d i) × (applies_49 (d i) ≡ false)

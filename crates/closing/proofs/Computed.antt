@@ -11,7 +11,7 @@ use lib.Dec.{eqb, ltb, leb}
 use lib.ListN.{length}
 use Rattle.words.specs.Choice.{all_below}
 use Rattle.words.specs.Members.{In}
-use Rattle.words.proofs.Choice.{zero_one, by_cases, and_left, and_right, or_case, all_holds}
+use Rattle.words.proofs.Choice.{by_cases, and_left, and_right, or_case, all_holds}
 use Rattle.roll.specs.declared.Roll.{Roll}
 use Rattle.rules.specs.declared.Votes.TheVariants.{Prevotes}
 use Rattle.rules.specs.declared.Input.{Input}
@@ -237,7 +237,7 @@ module _ (m : Market) where
         subst (λ (os : List Out). In o os) (ap (λ (f : List ℕ). acts (sent_in (records f))) file ∙ outs_are i (s.seat i) (known i) l) a
     put_out_only o (asleep d p used e op a) =
         let same : off d ≡ on (past_of i (s.seat i)) (file_of i (s.seat i)) = sym e ∙ is_on i (s.seat i) l in
-        absurd (zero_one (cc))
+        absurd (cc)
 
   module _ (g : Proposal) where
     abbrev turn : ℕ

@@ -1,5 +1,6 @@
 -- A kiosk of a good round at rest, with no rule that applies, has come as far as what it holds can take it. So progress need not be
 -- traced: each call ends at rest. Assumes nothing.
+use Rattle.std.specs.Prelude.{None}
 use Prim.Native.Nat.{ℕ, ◌≤◌, ◌<◌}
 use mathlib.Core.Path.{◌≡◌, refl, sym, ◌∙◌}
 use mathlib.Core.Bool.{true, false, ◌&&◌, not, true≢false}
@@ -14,7 +15,6 @@ use Rattle.roll.specs.declared.Roll.{Roll}
 use Rattle.rules.specs.declared.Votes.{Votes}
 use Rattle.rules.specs.declared.Votes.TheVariants.{Prevotes, Precommits}
 use Rattle.rules.specs.declared.Phase.TheVariants.{Running}
-use Rattle.rules.specs.declared.Rule.TheVariants.{Nothing}
 use Rattle.rules.specs.State.{marks_of, spoken, good}
 use Rattle.rules.specs.Log.{Desk, heard, proposed, voted, good_sheets, power_for}
 use Rattle.rules.specs.Doing.{step}
@@ -28,7 +28,7 @@ use Rattle.closing.specs.Closing.{Proposal}
 use Rattle.closing.proofs.Situation.{Ground, Holds, Stands}
 use Rattle.closing.proofs.Weights.{holding_large, sole_found}
 
-module _ (roll : Roll) (keeps : Seats) (g : Proposal) (b : Ground roll keeps g) (d : Desk) (s : Stands roll keeps g d) (rest : first_rule d ≡ Nothing)
+module _ (roll : Roll) (keeps : Seats) (g : Proposal) (b : Ground roll keeps g) (d : Desk) (s : Stands roll keeps g d) (rest : first_rule d ≡ None)
     (running : d.state.progress.phase ≡ Running) where
   h : Holds roll keeps g d
   h = s.holds

@@ -1,5 +1,6 @@
 -- Where a rule-keeping kiosk stands in a good round: what its log holds, what it put out, how far it has come, and which messages are fair
 -- to it. Assumes nothing.
+use Rattle.std.specs.Prelude.{None}
 use Prim.Native.Nat.{ℕ, pred, ◌*◌, ◌≤◌, ◌<◌}
 use mathlib.Core.Path.{◌≡◌}
 use mathlib.Core.Logic.{◌⊎◌}
@@ -14,7 +15,6 @@ use Rattle.rules.specs.declared.Votes.{Votes}
 use Rattle.rules.specs.declared.Votes.TheVariants.{Prevotes}
 use Rattle.rules.specs.declared.Input.{Input}
 use Rattle.rules.specs.declared.Phase.TheVariants.{Running, Settled}
-use Rattle.rules.specs.declared.Rule.TheVariants.{Nothing}
 use Rattle.rules.specs.State.{most_rounds, marks_of, spoken}
 use Rattle.rules.specs.Log.{Desk, table_length, heard, proposed, voted, power_for}
 use Rattle.rules.specs.Doing.{current, step, step_of}
@@ -84,7 +84,7 @@ module _ (roll : Roll) (keeps : Seats) (g : Proposal) where
   pub record Waits (os : List Out) (p : Past) : Type 0 where
     pub stands : Stands (at p)
     pub tells : Tells (step_number (step (at p))) os
-    pub rest : first_rule (at p) ≡ Nothing
+    pub rest : first_rule (at p) ≡ None
 
   -- a message that a rule-keeping kiosk can hear in the round and stay in it
   pub record Fair (d : Desk) (x : Input) : Type 0 where

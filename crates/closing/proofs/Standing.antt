@@ -1,5 +1,6 @@
 -- Each rule that fires in a good round keeps the kiosk in it, or takes it on: from propose to prevote with the proposal's prevote, from
 -- there to precommit with its precommit, from there to settled. Assumes nothing.
+use Rattle.std.specs.Prelude.{is_some}
 use Rattle.std.specs.Bool.{if◌then◌else◌}
 use Prim.Native.Nat.{ℕ, zero, suc, pred, ◌≤◌, ◌<◌}
 use mathlib.Core.Path.{◌≡◌, refl, sym, ap, subst, ◌∙◌}
@@ -10,7 +11,7 @@ use native.Mathlib.Omega.{arith}
 use lib.Dec.{eqb, ltb, leb}
 use borrow.Author.Tests.{eqb-true, eqb-false, eq-eqb, le-leb, ltb-true, ltb-false, not-true}
 use Rattle.words.specs.Marks.{marked}
-use Rattle.words.proofs.Choice.{by_test, by_cases, and_left, and_right, and_false, or_case, or_so, zero_one, first_passes, lowest_passes, highest_none}
+use Rattle.words.proofs.Choice.{by_test, by_cases, and_left, and_right, and_false, or_case, or_so, first_passes, lowest_passes, highest_none}
 use Rattle.words.proofs.Members.{InLeft, InRight, InLast, first_in}
 use Rattle.roll.specs.declared.Roll.{Roll}
 use Rattle.roll.specs.Weighing.{proposer}
@@ -23,8 +24,8 @@ use Rattle.rules.specs.State.{is_running, is_propose, is_prevote, marks_of, spok
 use Rattle.rules.specs.Log as log
 use Rattle.rules.specs.Log.{Desk, with_state, heard, proposed, good_sheets, message, hear_vote, power_for, message_power}
 use Rattle.rules.specs.Doing.{current, step, own, step_of, output, send, at_step, vote, ask}
-use Rattle.rules.specs.Rules.{is_large, is_some, applies_22, applies_28, applies_36, applies_44, applies_49, applies_55}
-use Rattle.rules.specs.Rules.{backed_sheet, closing_sheet, closing_round, calls, past_calling_round, first_rule, is_rule, vote_22, vote_28, fire_36, fire_49, fire}
+use Rattle.rules.specs.Rules.{is_large, has_some, applies_22, applies_28, applies_36, applies_44, applies_49, applies_55}
+use Rattle.rules.specs.Rules.{backed_sheet, closing_sheet, closing_round, calls, past_calling_round, first_rule, vote_22, vote_28, fire_36, fire_49, fire, fire_found}
 use Rattle.rules.specs.Work.{fire_all}
 use Rattle.rules.proofs.ByRule.{Runs, by_rule}
 use Rattle.rules.proofs.Deeds.{sole, holding}
@@ -49,12 +50,12 @@ use Rattle.closing.proofs.Holding.{holds_same, vote_holds}
 one_vote : (k l : Kind) (q r name w : ℕ) → said k q name ≡ said l r w → (q ≡ r) × (name ≡ w)
 one_vote pv pv q r name w e = (cc, cc)
 one_vote pc pc q r name w e = (cc, cc)
-one_vote pv pc q r name w e = absurd (zero_one (cc))
-one_vote pc pv q r name w e = absurd (zero_one (cc))
+one_vote pv pc q r name w e = absurd (cc)
+one_vote pc pv q r name w e = absurd (cc)
 
 vote_proposal : (k : Kind) (q name : ℕ) (l : List ℕ) → proposal l ≡ said k q name → ⊥
-vote_proposal pv q name l e = zero_one (cc)
-vote_proposal pc q name l e = zero_one (cc)
+vote_proposal pv q name l e = cc
+vote_proposal pc q name l e = cc
 
 -- of the votes up to a step, each is the last or of an earlier step
 up_to : (v w : Votes) (n : ℕ) → step_number (step_of v) ≤ suc n → step_number (step_of w) ≤ step_number (step_of v) → (step_number (step_of w) ≤ n) ⊎ (v ≡ w)
@@ -150,7 +151,7 @@ module _ (roll : Roll) (keeps : Seats) (g : Proposal) (b : Ground roll keeps g) 
         let t = vote_later Prevotes d g.round roll.own g.name g.round (omega arith) own_low in
         let k = vote_holds roll keeps g b.few_kiosks b.low d h g.round (omega arith) b.there Prevotes roll.own g.name b.own_seat (λ z. (refl, refl)) in
         let others : (j : ℕ) → j < roll.kiosks → marked (heard u g.round).precommits j ≡ true → marked (heard d g.round).precommits j ≡ true
-        = λ j m z. ⊎_elim (λ y. absurd (zero_one (cc))) (λ y. y.0) (vote_heard Prevotes d g.round roll.own g.name own_low (vote_there Prevotes d g.round roll.own own_low b.there h.places) Precommits g.round j (omega (arith, b.few_kiosks, m)) z) in (
+        = λ j m z. ⊎_elim (λ y. absurd (cc)) (λ y. y.0) (vote_heard Prevotes d g.round roll.own g.name own_low (vote_there Prevotes d g.round roll.own own_low b.there h.places) Precommits g.round j (omega (arith, b.few_kiosks, m)) z) in (
           record {
             stands = record {
               holds = holds_same roll keeps g u voted refl refl refl refl k;
@@ -402,7 +403,7 @@ module _ (roll : Roll) (keeps : Seats) (g : Proposal) (b : Ground roll keeps g) 
     unfolding applies_55 past_calling_round calls message_power
     no_55 =
         let off : past_calling_round d ≡ 0 = highest_none d.rounds (λ q. calls d q) (λ q l.
-        and_false (ltb (current d) q) (is_some d (message_power d q)) (λ t.
+        and_false (ltb (current d) q) (has_some d (message_power d q)) (λ t.
         let more : g.round < q = rw s.round at (ltb-true (current d) q t) in
         let c = heard d q in
         let small = not_some roll keeps b.few (λ i. (spoken c && eqb (proposer roll q) i) || marked c.prevotes i || marked c.precommits i) (λ j k z.
@@ -423,10 +424,10 @@ module _ (roll : Roll) (keeps : Seats) (g : Proposal) (b : Ground roll keeps g) 
     still : Next d d
     still = (a, later_same g.round d d refl refl refl refl (omega arith))
 
-    rule_next : (offer : ℕ) → Next d (fire (first_rule d) offer d)
+    rule_next : (offer : ℕ) → Next d (fire_found (first_rule d) offer d)
     unfolding fire
     rule_next offer =
-        by_rule (λ rule. Next d (fire rule offer d)) d
+        by_rule (λ found. Next d (fire_found found offer d)) d
         (λ e. still)
         (λ run q x y. still)
         (λ run t. next_22 run t)
@@ -444,7 +445,7 @@ module _ (roll : Roll) (keeps : Seats) (g : Proposal) (b : Ground roll keeps g) 
   fired_next zero offer d a = still d a
   fired_next (suc n) offer d a =
       let one = rule_next d a offer in
-      let u = fire (first_rule d) offer d in
-      by_test (Next d) (is_rule (first_rule d))
+      let u = fire_found (first_rule d) offer d in
+      by_test (Next d) (is_some (first_rule d))
       (λ e. let rest = fired_next n offer u one.0 in (rest.0, later_then g.round d u (fire_all n offer u) one.1 rest.1))
       (λ e. still d a)

@@ -1,13 +1,13 @@
 -- The beginning of a call's work: after the input, what firing relies on holds, and what firing leaves is what the call leaves.
 -- Assumes nothing.
-use Rattle.std.specs.Bool.{if◌then◌else◌}
+use Rattle.std.specs.Prelude.{Option, Some, None}
 use Prim.Native.Nat.{ℕ, ◌≤◌, ◌<◌}
 use mathlib.Core.Path.{◌≡◌, refl, ap, sym, ◌∙◌, subst}
 use mathlib.Core.List.{List, []}
-use mathlib.Core.Bool.{Bool, true, false, ◌&&◌}
+use mathlib.Core.Bool.{true, ◌&&◌}
 use native.Mathlib.Omega.{arith}
 use lib.Dec.{eqb, leb}
-use lib.ListN.{length, get_or}
+use lib.ListN.{length}
 use Rattle.roll.specs.declared.Roll.{Roll}
 use Rattle.rules.specs.declared.State.{State}
 use Rattle.rules.specs.declared.Progress.{Progress}
@@ -18,30 +18,31 @@ use Rattle.rules.specs.State.{most_rounds, state_of}
 use Rattle.rules.specs.Log.{Desk, desk, table_length, message}
 use Rattle.rules.specs.Doing.{current}
 use Rattle.rules.specs.Work.{take_in, fire_all, most_firings, worked, work}
-use Rattle.rules.specs.Sent.{packed, no_output}
+use Rattle.rules.specs.Sent.{packed, with_output}
 use Rattle.rules.specs.InContracts.Ready.{Ready, Readable, midway, so_far}
 use Rattle.rules.proofs.Sends.{sent_grows}
 use Rattle.firing.specs.declared.Act.{Act}
+use Rattle.firing.specs.declared.Trail.{Trail}
 use Rattle.firing.specs.InContracts.Acts.{done}
-use Rattle.firing.specs.InContracts.Trails.{trail_length, no_trail, undone, undone_to, own_message, message_of, lent, Writable, Puts, Firing, Leaves}
+use Rattle.firing.specs.InContracts.Trails.{no_trail, undone, undone_to, own_message, writes, message_of, loan, Writable, Puts, Firing, Leaves}
 use Rattle.firing.proofs.Keeping.{take_in_keeps}
-use Rattle.firing.proofs.Turns.{also, sent_after, Handed, handed, moved, message_is}
+use Rattle.firing.proofs.Turns.{also, Handed, handed, moved, message_is}
 
 -- as a call begins there is room for outputs
 pub no_outputs : {s : Sent} → s ≡ packed [] → s.count < 6
 no_outputs e = rw e (omega arith)
 
 -- and for a write
-pub none_long : {trail : List ℕ} → trail ≡ no_trail → length trail ≡ trail_length
-none_long e = ap length e
+pub none_long : {trail : Trail} → trail ≡ no_trail → length trail.places ≡ 7
+none_long e = ap (λ (x : Trail). length x.places) e
 
-pub none_written : {trail t : List ℕ} → trail ≡ no_trail → length t ≡ table_length → Writable trail t
+pub none_written : {trail : Trail} {t : List ℕ} → trail ≡ no_trail → length t ≡ table_length → Writable trail t
 none_written e p = record { room = rw e (omega arith); long = none_long e; places = p }
 
 -- where one write at most was put
-at_most_one : (b : Bool) → (if b then 1 else 0) ≤ 1
-at_most_one true = omega arith
-at_most_one false = omega arith
+at_most_one : (output : Option Output) → writes output ≤ 1
+at_most_one None = omega arith
+at_most_one (Some o) = omega arith
 
 -- ## After the input, whatever it was
 
@@ -49,10 +50,10 @@ module _
     (i : Input)
     (roll : Roll)
     (votes votes' : Progress)
-    {l l' t t' trail₀ trail : List ℕ}
+    {l l' t t' : List ℕ}
+    {trail₀ trail : Trail}
     {sent₀ sent : Sent}
-    (sends : Bool)
-    (o : Output)
+    (output : Option Output)
     (f : Desk → Desk)
     (most : ℕ)
     (ready : Ready (state_of roll votes l) t)
@@ -60,10 +61,10 @@ module _
     (few : length (work i (state_of roll votes l) t).sent ≤ 6)
     (empty : sent₀ ≡ packed [])
     (nowhere : trail₀ ≡ no_trail)
-    (p : Puts f most (lent l t trail₀) (lent l' t' trail))
+    (p : Puts f most (loan l t trail₀) (loan l' t' trail))
     (one : most ≤ 1)
-    (taken : midway (state_of roll votes' l') t' (also sends o []) ≡ take_in i (desk (state_of roll votes l) t))
-    (next : sent ≡ sent_after sends o sent₀) where
+    (taken : midway (state_of roll votes' l') t' (also output []) ≡ take_in i (desk (state_of roll votes l) t))
+    (next : sent ≡ with_output output sent₀) where
   u : Desk
   u = take_in i (desk (state_of roll votes l) t)
 
@@ -78,7 +79,7 @@ module _
   unfolding u
   hands =
       rw next
-      (handed sends o (state_of roll votes' l') t' sent₀ [] u taken empty (omega arith)
+      (handed output (state_of roll votes' l') t' sent₀ [] u taken empty (omega arith)
       (omega (arith, sent_grows (most_firings most_rounds) i.offer u, few_after)))
 
   keeps : current u < 16
@@ -100,11 +101,11 @@ module _
     };
     packs = hands.packs;
     few = subst (λ (x : Desk). length (fire_all (most_firings most_rounds) i.offer x).sent ≤ 6) (sym hands.desk_is) few_after;
-    short = omega (arith, p.count, one, ap (λ (z : List ℕ). get_or z 0 0) nowhere);
+    short = omega (arith, p.count, one, ap (λ (z : Trail). z.count) nowhere);
     long = p.long;
   }
 
-  pub leaves_all : {s : State} {out : Sent} {way table : List ℕ} →
+  pub leaves_all : {s : State} {out : Sent} {way : Trail} {table : List ℕ} →
       Leaves (fire_all (most_firings most_rounds) i.offer (midway (state_of roll votes' l') t' (so_far sent))) (undone trail t') s out way table →
       Leaves (work i (state_of roll votes l) t) t s out way table
   unfolding undone_to
@@ -114,7 +115,7 @@ module _
         state = r.state ∙ ap (λ (x : Desk). x.state) same;
         outputs = r.outputs ∙ ap (λ (x : Desk). packed x.sent) same;
         names = r.names ∙ ap (λ (x : Desk). x.table) same;
-        back = r.back ∙ p.back ∙ ap (λ (z : List ℕ). undone z t) nowhere;
+        back = r.back ∙ p.back ∙ ap (λ (z : Trail). undone z t) nowhere;
         short = r.short;
       }
 
@@ -124,7 +125,8 @@ module _
     (i : Input)
     (roll : Roll)
     (votes : Progress)
-    {l l' t t' trail₀ trail : List ℕ}
+    {l l' t t' : List ℕ}
+    {trail₀ trail : Trail}
     {sent₀ : Sent}
     (ready : Ready (state_of roll votes l) t)
     (readable : Readable i)
@@ -134,35 +136,35 @@ module _
   -- a message
   module _
       (mid : (leb 2 i.kind && leb i.kind 4) ≡ true)
-      (p : Puts (message (message_of i) i.sender (eqb i.verdict 1)) 1 (lent l t trail₀) (lent l' t' trail)) where
+      (p : Puts (message (message_of i) i.sender (eqb i.verdict 1)) 1 (loan l t trail₀) (loan l' t' trail)) where
     heard : midway (state_of roll votes l') t' [] ≡ take_in i (desk (state_of roll votes l) t)
     heard = p.desk roll votes [] ∙ message_is i (desk (state_of roll votes l) t) mid
 
     pub message_fires : Firing (most_firings most_rounds) i.offer (state_of roll votes l') sent₀ trail t'
-    message_fires = fires i roll votes votes false no_output _ 1 ready readable few empty nowhere p (omega arith) heard refl
+    message_fires = fires i roll votes votes None _ 1 ready readable few empty nowhere p (omega arith) heard refl
 
-    pub message_leaves : {s : State} {out : Sent} {way table : List ℕ} →
+    pub message_leaves : {s : State} {out : Sent} {way : Trail} {table : List ℕ} →
         Leaves (fire_all (most_firings most_rounds) i.offer (midway (state_of roll votes l') t' (so_far sent₀))) (undone trail t') s out way table →
         Leaves (work i (state_of roll votes l) t) t s out way table
-    message_leaves r = leaves_all i roll votes votes false no_output _ 1 ready readable few empty nowhere p (omega arith) heard refl r
+    message_leaves r = leaves_all i roll votes votes None _ 1 ready readable few empty nowhere p (omega arith) heard refl r
 
   -- start, or a timer
   module _
       (a : Act)
       {sent : Sent}
       (act : (l t : List ℕ) (os : List Output) → done a (midway (state_of roll votes l) t os) ≡ take_in i (midway (state_of roll votes l) t os))
-      (p : Puts (own_message (a.sends && leb a.output.kind 3) roll.own a.output) (if a.sends && leb a.output.kind 3 then 1 else 0) (lent l t trail₀) (lent l' t' trail))
-      (next : sent ≡ sent_after a.sends a.output sent₀) where
-    begun : midway (state_of roll a.progress l') t' (also a.sends a.output []) ≡ take_in i (desk (state_of roll votes l) t)
-    begun = moved a.sends a.output roll a.progress [] p ∙ act l t []
+      (p : Puts (own_message a.output roll.own) (writes a.output) (loan l t trail₀) (loan l' t' trail))
+      (next : sent ≡ with_output a.output sent₀) where
+    begun : midway (state_of roll a.progress l') t' (also a.output []) ≡ take_in i (desk (state_of roll votes l) t)
+    begun = moved a.output roll a.progress [] p ∙ act l t []
 
-    one : (if a.sends && leb a.output.kind 3 then 1 else 0) ≤ 1
-    one = at_most_one (a.sends && leb a.output.kind 3)
+    one : writes a.output ≤ 1
+    one = at_most_one a.output
 
     pub begin_fires : Firing (most_firings most_rounds) i.offer (state_of roll a.progress l') sent trail t'
-    begin_fires = fires i roll votes a.progress a.sends a.output _ _ ready readable few empty nowhere p one begun next
+    begin_fires = fires i roll votes a.progress a.output _ _ ready readable few empty nowhere p one begun next
 
-    pub begin_leaves : {s : State} {out : Sent} {way table : List ℕ} →
+    pub begin_leaves : {s : State} {out : Sent} {way : Trail} {table : List ℕ} →
         Leaves (fire_all (most_firings most_rounds) i.offer (midway (state_of roll a.progress l') t' (so_far sent))) (undone trail t') s out way table →
         Leaves (work i (state_of roll votes l) t) t s out way table
-    begin_leaves r = leaves_all i roll votes a.progress a.sends a.output _ _ ready readable few empty nowhere p one begun next r
+    begin_leaves r = leaves_all i roll votes a.progress a.output _ _ ready readable few empty nowhere p one begun next r

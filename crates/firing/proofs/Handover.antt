@@ -4,72 +4,49 @@ use mathlib.Core.Path.{◌≡◌, refl, ap, ap₂, sym, ◌∙◌}
 use mathlib.Core.List.{List, [], ◌∷◌, ◌++◌}
 use native.Mathlib.Numerals.{add-one, sub-one}
 use native.Mathlib.Omega.{arith}
-use lib.ListN.{length, take, set, get_or, replicate, length-append, length-set}
+use lib.ListN.{length, take, set, get_or, replicate, length-append}
 use lib.Seq.{set-set, set-get_or, get_or-set_same, get_or-set_other, take-take, take-append_seam}
 use Rattle.rules.specs.declared.Output.{Output}
 use Rattle.rules.specs.declared.Sent.{Sent}
 use Rattle.rules.specs.Sent.{no_output, six, packed}
 use Rattle.rules.specs.InContracts.Ready.{so_far}
-use Rattle.firing.specs.InContracts.Trails.{written, kept_at, longer, undone_to, undone}
+use Rattle.firing.specs.declared.Trail.{Trail}
+use Rattle.firing.specs.InContracts.Trails.{longer, undone_to, undone}
 
 -- ## The trail
 
 -- one write less to take back
-pub undone_less : (left : ℕ) (trail table : List ℕ) → 0 < left →
-    undone_to left trail table ≡ undone_to (left - 1) trail (set table (get_or trail (kept_at (left - 1)) 0) (get_or trail (kept_at (left - 1) + 1) 0))
+pub undone_less : (left : ℕ) (places : List (ℕ × ℕ)) (table : List ℕ) → 0 < left →
+    undone_to left places table ≡
+    undone_to (left - 1) places (set table (get_or places (left - 1) (0, 0)).0 (get_or places (left - 1) (0, 0)).1)
 unfolding undone_to
-undone_less zero trail table h = absurd (omega arith)
-undone_less (suc left) trail table h = rw sub-one
+undone_less zero places table h = absurd (omega arith)
+undone_less (suc left) places table h = rw sub-one
 
-pub undone_none : (left : ℕ) (trail table : List ℕ) → left ≤ 0 → undone_to left trail table ≡ table
+pub undone_none : (left : ℕ) (places : List (ℕ × ℕ)) (table : List ℕ) → left ≤ 0 → undone_to left places table ≡ table
 unfolding undone_to
-undone_none zero trail table h = refl
-undone_none (suc left) trail table h = absurd (omega arith)
+undone_none zero places table h = refl
+undone_none (suc left) places table h = absurd (omega arith)
 
 -- only the first n writes are looked at
-undone_same : (n : ℕ) (a b table : List ℕ) → ((k : ℕ) → 0 < k → k < kept_at n → get_or a k 0 ≡ get_or b k 0) → undone_to n a table ≡ undone_to n b table
+undone_same : (n : ℕ) (a b : List (ℕ × ℕ)) (table : List ℕ) → ((k : ℕ) → k < n → get_or a k (0, 0) ≡ get_or b k (0, 0)) →
+    undone_to n a table ≡ undone_to n b table
 unfolding undone_to
 undone_same zero a b table same = refl
-undone_same (suc n) a b table same =
-    rw (same (kept_at n) (omega arith) (omega arith), same (kept_at n + 1) (omega arith) (omega arith))
-    (undone_same n a b _ (λ k some low. same k some (omega arith)))
-
-module _ (trail : List ℕ) (place name : ℕ) (long : length trail ≡ 15) (room : written trail < 7) where
-  abbrev at : ℕ
-  at = kept_at (written trail)
-
-  pub longer_written : written (longer trail place name) ≡ written trail + 1
-  longer_written = get_or-set_same (set (set trail at place) (at + 1) name) 0 _ 0 (simp length-set (omega arith))
-
-  longer_other : (k : ℕ) → 0 < k → k < at → get_or (longer trail place name) k 0 ≡ get_or trail k 0
-  longer_other k some low =
-      get_or-set_other (set (set trail at place) (at + 1) name) 0 k _ 0 (λ e. omega arith)
-      ∙ get_or-set_other (set trail at place) (at + 1) k name 0 (λ e. omega arith)
-      ∙ get_or-set_other trail at k place 0 (λ e. omega arith)
-
-  longer_place : get_or (longer trail place name) at 0 ≡ place
-  longer_place =
-      get_or-set_other (set (set trail at place) (at + 1) name) 0 at _ 0 (λ e. omega arith)
-      ∙ get_or-set_other (set trail at place) (at + 1) at name 0 (λ e. omega arith)
-      ∙ get_or-set_same trail at place 0 (omega arith)
-
-  longer_name : get_or (longer trail place name) (at + 1) 0 ≡ name
-  longer_name =
-      get_or-set_other (set (set trail at place) (at + 1) name) 0 (at + 1) _ 0 (λ e. omega arith)
-      ∙ get_or-set_same (set trail at place) (at + 1) name 0 (simp length-set (omega arith))
+undone_same (suc n) a b table same = rw (same n (omega arith)) (undone_same n a b _ (λ k low. same k (omega arith)))
 
 -- a write kept in the trail is taken back with it
-pub undone_write : (trail table : List ℕ) (place name : ℕ) → length trail ≡ 15 → written trail < 7 →
+pub undone_write : (trail : Trail) (table : List ℕ) (place name : ℕ) → length trail.places ≡ 7 → trail.count < 7 →
     undone (longer trail place (get_or table place 0)) (set table place name) ≡ undone trail table
 unfolding undone_to
 undone_write trail table place name long room =
-    let old = get_or table place 0 in
-    let n = written trail in
-    let more = longer trail place old in
-    ap (λ (k : ℕ). undone_to k more (set table place name)) (longer_written trail place old long room ∙ add-one n)
-    ∙ ap₂ (λ (p q : ℕ). undone_to n more (set (set table place name) p q)) (longer_place trail place old long room) (longer_name trail place old long room)
-    ∙ ap (λ (z : List ℕ). undone_to n more z) (set-set table place name old ∙ set-get_or table place 0)
-    ∙ undone_same n more trail table (longer_other trail place old long room)
+    let n = trail.count in
+    let held : ℕ × ℕ = (place, get_or table place 0) in
+    let more = set trail.places n held in
+    ap (λ (k : ℕ). undone_to k more (set table place name)) (add-one n)
+    ∙ ap (λ (x : ℕ × ℕ). undone_to n more (set (set table place name) x.0 x.1)) (get_or-set_same trail.places n held (0, 0) (omega arith))
+    ∙ ap (λ (z : List ℕ). undone_to n more z) (set-set table place name held.1 ∙ set-get_or table place 0)
+    ∙ undone_same n more trail.places table (λ k low. get_or-set_other trail.places n k held (0, 0) (λ e. omega arith))
 
 -- ## The outputs
 

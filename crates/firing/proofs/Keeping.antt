@@ -1,4 +1,5 @@
 -- What a call keeps: a round that there is. Assumes nothing.
+use Rattle.std.specs.Prelude.{is_some}
 use Prim.Native.Nat.{ℕ, suc, ◌≤◌, ◌<◌}
 use mathlib.Core.Path.{◌≡◌}
 use mathlib.Core.Bool.{true}
@@ -8,12 +9,12 @@ use Rattle.rules.specs.declared.Input.{Input}
 use Rattle.rules.specs.State.{with_phase}
 use Rattle.rules.specs.Log.{Desk, with_state, message, hear_vote}
 use Rattle.rules.specs.Doing.{current, vote}
-use Rattle.rules.specs.Rules.{first_rule, is_rule, fire, fire_49}
+use Rattle.rules.specs.Rules.{first_rule, fire_found, fire_49}
 use Rattle.rules.specs.Work.{take_in}
 use Rattle.rules.proofs.Firing.{enters, by_firing}
 use Rattle.rules.proofs.ByInput.{by_input}
 
-pub fire_keeps : (offer : ℕ) (d : Desk) → current d < d.rounds → is_rule (first_rule d) ≡ true → current (fire (first_rule d) offer d) < d.rounds
+pub fire_keeps : (offer : ℕ) (d : Desk) → current d < d.rounds → is_some (first_rule d) ≡ true → current (fire_found (first_rule d) offer d) < d.rounds
 unfolding fire_49
 fire_keeps offer d less =
     by_firing (λ u. current u < d.rounds) offer d

@@ -3,34 +3,47 @@
 
 pub mod doing;
 pub mod fire;
+pub mod hearing;
 pub mod within;
 
-use rules::{Output, Progress, Sent};
+use rules::{Log, Output, Progress, Sent};
 
 // What a kiosk does at once: its votes after it, and at most one output. An own message among the outputs goes in the own log.
 #[derive(Clone, Copy)]
 pub struct Act {
     pub progress: Progress,
-    pub sends: bool,
-    pub output: Output,
+    pub output: Option<Output>,
 }
 
-// How many places of the table were written, and then each with the name that it held: room for seven.
-pub const TRAIL: usize = 15;
+// The places of the table that were written, the first `count` of `places`: each with the name that it held. No `Vec`: the engine has
+// no heap. That `count` is at most 7 was tried as an invariant: `longer` (specs), which adds a place to any trail, is not admitted then.
+#[derive(Clone, Copy)]
+pub struct Trail {
+    pub count: usize,
+    pub places: [(usize, u64); Trail::MOST],
+}
 
-pub type Trail = [u64; TRAIL];
+impl Trail {
+    // A call writes a place for each output, and one for the input.
+    pub const MOST: usize = 7;
 
-// The work of a call: the progress after it, and the outputs. The log, the table and the trail are in the lent arrays.
+    pub const EMPTY: Trail = Trail {
+        count: 0,
+        places: [(0, 0); Trail::MOST],
+    };
+}
+
+// What is lent to a call, its log and its table, with the trail by which the table can be taken back.
+#[derive(Drop)]
+pub struct Lent<'a> {
+    pub log: &'a mut Log,
+    pub table: &'a mut [u64],
+    pub trail: Trail,
+}
+
+// The work of a call: the progress after it, and the outputs. The log and the table are in what was lent.
 #[derive(Clone, Copy)]
 pub struct Worked {
-    pub progress: Progress,
-    pub sent: Sent,
-}
-
-// The work of an input whose group fits: the progress after it, and the outputs. One whose group does not fit is taken back.
-#[derive(Clone, Copy)]
-pub struct Tried {
-    pub fits: bool,
     pub progress: Progress,
     pub sent: Sent,
 }

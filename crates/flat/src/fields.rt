@@ -6,7 +6,10 @@ use crate::{FlatInput, FlatKiosk, FlatOutput, FlatReply};
 use roll::Roll;
 use rules::State;
 
-// A field that is one number, by its place in the struct.
+// The tables go by number, since a C caller names a field by its place in the struct (`slip_kiosk_number`).
+
+// A field that is one number.
+#[tactic(auto, unfolding(crate::specs::Fields::plain_number))]
 fn plain_number(f: FlatKiosk, field: usize) -> u64
     ensures { result ≡ plain_number f field }
 {
@@ -17,56 +20,46 @@ fn plain_number(f: FlatKiosk, field: usize) -> u64
         3 => f.last as u64,
         4 => f.locked_name,
         5 => f.valid_name,
-        6 => f.height as u64,
-        8 => f.phase as u64,
-        9 => f.settled as u64,
-        10 => f.round as u64,
-        11 => f.step as u64,
-        12 => f.asked_propose as u64,
-        13 => f.asked_prevote as u64,
-        14 => f.asked_precommit as u64,
-        15 => f.backed as u64,
-        16 => f.locked_next as u64,
-        17 => f.valid_next as u64,
+        6 => u64::from(f.height),
+        8 => u64::from(f.phase),
+        9 => u64::from(f.settled),
+        10 => u64::from(f.round),
+        11 => u64::from(f.step),
+        12 => u64::from(f.asked_propose),
+        13 => u64::from(f.asked_prevote),
+        14 => u64::from(f.asked_precommit),
+        15 => u64::from(f.backed),
+        16 => u64::from(f.locked_next),
+        17 => u64::from(f.valid_next),
         _ => 0,
     }
 }
 
+#[tactic(auto, unfolding(crate::specs::Fields::kiosk_number))]
 pub fn kiosk_number(f: FlatKiosk, field: usize, index: usize) -> u64
     ensures { result ≡ kiosk_number f field index }
 {
-    if field == 7 {
-        if Roll::MOST <= index {
-            return 0;
-        }
-        let powers = f.powers;
-        return powers[index] as u64;
+    match field {
+        7 if index < Roll::MOST => u64::from(f.powers[index]),
+        18 if index < State::LOG => u64::from(f.log[index]),
+        0..=6 | 8..=17 => plain_number(f, field),
+        _ => 0,
     }
-    if field < 18 {
-        return plain_number(f, field);
-    }
-    if 18 < field {
-        return 0;
-    }
-    if State::LOG <= index {
-        return 0;
-    }
-    let log = f.log;
-    log[index] as u64
 }
 
+#[tactic(auto, unfolding(crate::specs::Fields::input_number))]
 pub fn input_number(i: FlatInput, field: usize) -> u64
     ensures { result ≡ input_number i field }
 {
     match field {
         0 => i.name,
         1 => i.offer,
-        2 => i.height as u64,
-        3 => i.kind as u64,
-        4 => i.sender as u64,
-        5 => i.round as u64,
-        6 => i.valid as u64,
-        7 => i.verdict as u64,
+        2 => u64::from(i.height),
+        3 => u64::from(i.kind),
+        4 => u64::from(i.sender),
+        5 => u64::from(i.round),
+        6 => u64::from(i.valid),
+        7 => u64::from(i.verdict),
         _ => 0,
     }
 }
@@ -76,39 +69,36 @@ fn output_from(n: u8) -> FlatOutput
     ensures { result ≡ output_from n }
 {
     FlatOutput {
-        name: n as u64,
+        name: u64::from(n),
         kind: n + 1,
         round: n + 2,
         valid: n + 3,
     }
 }
 
-fn layout_from(f: FlatKiosk, n: u8) -> FlatReply
+fn layout_from(kiosk: FlatKiosk, n: u8) -> FlatReply
     requires { n ≤ 200 }
-    ensures { result ≡ layout_from f n }
+    ensures { result ≡ layout_from kiosk n }
 {
-    let sent = [
-        output_from(n + 3),
-        output_from(n + 7),
-        output_from(n + 11),
-        output_from(n + 15),
-        output_from(n + 19),
-        output_from(n + 23),
-    ];
     FlatReply {
-        number: n as u32,
-        place: (n + 1) as usize,
-        count: (n + 2) as usize,
-        sent,
-        kiosk: f,
+        number: u32::from(n),
+        place: usize::from(n + 1),
+        count: usize::from(n + 2),
+        sent: [
+            output_from(n + 3),
+            output_from(n + 7),
+            output_from(n + 11),
+            output_from(n + 15),
+            output_from(n + 19),
+            output_from(n + 23),
+        ],
+        kiosk,
     }
 }
 
+#[tactic(auto, unfolding(crate::specs::Fields::layout))]
 pub fn layout(f: FlatKiosk, first: u8) -> FlatReply
     ensures { result ≡ layout f first }
 {
-    if 200 < first {
-        return layout_from(f, 200);
-    }
-    layout_from(f, first)
+    layout_from(f, first.min(200))
 }

@@ -44,8 +44,9 @@ pub struct FlatInput {
     pub verdict: u8,
 }
 
+// By default, what stands in a place that no output has come to.
 #[repr(C)]
-#[derive(Clone, Copy)]
+#[derive(Clone, Copy, Default)]
 pub struct FlatOutput {
     pub name: u64,
     pub kind: u8,

@@ -1,5 +1,6 @@
 -- "places not heard hold 0 in every state that opening, or accepted calls from there, give"; and there a kiosk that runs has no rule that
 -- applies. Assumes nothing.
+use Rattle.std.specs.Prelude.{None}
 use Prim.Native.Nat.{ℕ, ◌≤◌, ◌<◌}
 use mathlib.Core.Path.{◌≡◌, refl, ap, sym, ◌∙◌}
 use mathlib.Core.List.{List}
@@ -18,7 +19,6 @@ use Rattle.rules.specs.declared.Votes.TheVariants.{Prevotes, Precommits}
 use Rattle.rules.specs.declared.Heard.{Heard}
 use Rattle.rules.specs.declared.Input.{Input}
 use Rattle.rules.specs.declared.Phase.TheVariants.{Running}
-use Rattle.rules.specs.declared.Rule.TheVariants.{Nothing}
 use Rattle.rules.specs.State.{rounds_of, is_fresh, spoken, entered, with_phase, with_stand}
 use Rattle.rules.specs.Log.{Desk, desk, with_state, tell, heard, table_length, proposal_place, vote_place, message, hear_proposal, hear_vote}
 use Rattle.rules.specs.Doing.{current, own, propose, vote, ask, sheet_to_propose, start_round}
@@ -141,5 +141,5 @@ unheard_places {roll} h =
     ).zeros
 
 -- a kiosk that runs has no rule that applies
-pub no_rule : {roll : Roll} {cs : List Call} {p : Past} → History roll cs p → is_fresh p.kiosk.state.progress.phase ≡ false → first_rule (desk p.kiosk.state p.table) ≡ Nothing
+pub no_rule : {roll : Roll} {cs : List Call} {p : Past} → History roll cs p → is_fresh p.kiosk.state.progress.phase ≡ false → first_rule (desk p.kiosk.state p.table) ≡ None
 no_rule {p = p} h old = let d = desk p.kiosk.state p.table in rests d (fits d (steady h).possible).rest old

@@ -1,5 +1,6 @@
 -- What an accepted input guarantees: refusal 1 has let the state in, the fields are within the rules, and the call has at most six
 -- outputs. Assumes nothing.
+use Rattle.std.specs.Prelude.{None, is_some}
 use Rattle.std.specs.Bool.{if◌then◌else◌}
 use Prim.Native.Nat.{ℕ, suc, ◌≤◌, ◌<◌}
 use mathlib.Core.Path.{◌≡◌, refl, sym, ◌∙◌}
@@ -14,13 +15,12 @@ use Rattle.words.proofs.Choice.{and_left, and_right}
 use Rattle.roll.specs.Weighing.{roll_fits, own_fits, proposer}
 use Rattle.roll.proofs.Weighing.{fits_count}
 use Rattle.rules.specs.declared.Input.{Input}
-use Rattle.rules.specs.declared.Rule.TheVariants.{Nothing}
 use Rattle.rules.specs.State.{is_fresh, is_settled, settled_round, most_rounds, unheard}
 use Rattle.rules.specs.Log.{Desk, desk, table_length, heard}
 use Rattle.rules.specs.Doing.{current, own}
-use Rattle.rules.specs.Rules.{first_rule, is_rule}
+use Rattle.rules.specs.Rules.{first_rule}
 use Rattle.rules.specs.InContracts.Ready.{Ready, Readable}
-use Rattle.rules.proofs.ByRule.{not_a_rule}
+use Rattle.rules.proofs.ByRule.{none_found}
 use Rattle.journal.specs.Layout.{header_length}
 use Rattle.kiosk.specs.declared.Kiosk.{Kiosk}
 use Rattle.refusals.specs.declared.Answer.{Answer}
@@ -127,11 +127,11 @@ unstarted d rest fresh =
     }
 
 -- "started, not settled and some rule already applies" is not so of it: no rule applies, once started
-pub rests : (d : Desk) → at_rest d ≡ true → is_fresh d.state.progress.phase ≡ false → first_rule d ≡ Nothing
+pub rests : (d : Desk) → at_rest d ≡ true → is_fresh d.state.progress.phase ≡ false → first_rule d ≡ None
 unfolding at_rest
 rests d rest old =
-    let f : not (is_rule (first_rule d)) ≡ true = rw old at rest in
-    not_a_rule (first_rule d) (not-true (is_rule (first_rule d)) f)
+    let f : not (is_some (first_rule d)) ≡ true = rw old at rest in
+    none_found (first_rule d) (not-true (is_some (first_rule d)) f)
 
 -- ## What an accepted input has passed
 

@@ -1,4 +1,5 @@
 -- What refusal 1 asks is kept: an accepted call leaves a state and a table that refusal 1 lets in. Assumes nothing.
+use Rattle.std.specs.Prelude.{None}
 use Rattle.std.specs.Bool.{if◌then◌else◌}
 use Prim.Native.Nat.{ℕ, suc, ◌^◌, ◌≤◌, ◌<◌}
 use mathlib.Core.Path.{◌≡◌, refl, sym, ap, ◌∙◌}
@@ -23,7 +24,6 @@ use Rattle.rules.specs.declared.Held.{Held}
 use Rattle.rules.specs.declared.Input.{Input}
 use Rattle.rules.specs.declared.Phase.{Phase}
 use Rattle.rules.specs.declared.Phase.TheVariants.{Fresh, Running, Settled}
-use Rattle.rules.specs.declared.Rule.TheVariants.{Nothing}
 use Rattle.rules.specs.declared.State.{State}
 use Rattle.rules.specs.declared.Stand.{Stand}
 use Rattle.rules.specs.declared.Output.{Output}
@@ -307,7 +307,7 @@ module _ (d : Desk) (i : Input) (f : Fits d) (p : Passes d i) (rounds : d.rounds
 -- ---- and so refusal 1 lets it in
 
 -- a desk at rest that is sound is let in
-let_in : (d : Desk) → Sound d → first_rule d ≡ Nothing → desk_fits d ≡ true
+let_in : (d : Desk) → Sound d → first_rule d ≡ None → desk_fits d ≡ true
 unfolding desk_fits at_rest
 let_in d s none =
     rw (

@@ -2,47 +2,48 @@
 use Prim.Native.Nat.{ℕ}
 use mathlib.Core.Path.{◌≡◌, refl}
 use mathlib.Core.List.{List, [], ◌∷◌, map}
+use Rattle.std.specs.Prelude.{Option, Some, None}
+use Rattle.rules.specs.declared.Input.{Input}
 use Rattle.words.specs.Choice.{the_choices}
 use Rattle.roll.specs.declared.Height.{Height}
 use Rattle.rules.proofs.Whole.{input}
 use Rattle.listing.specs.Text.{the_text}
-use Rattle.lines.specs.declared.Parsed.{Parsed}
-use Rattle.lines.specs.Reading.{good_input, no_input, parsed, the_reading}
+use Rattle.lines.specs.Reading.{parsed, the_reading}
 
 -- a line, and the whole reply at height 7
 pub record Case : Type 0 where
   pub line : List ℕ
-  pub reply : Parsed
+  pub reply : Option Input
 
 abbrev height : Height
 height = record { 0 = 7 }
 
-abbrev reads : List ℕ → Parsed → Case
+abbrev reads : List ℕ → Option Input → Case
 reads line reply = record { line = line; reply = reply }
 
 -- inputs: kind, sender, round, valid round plus one, verdict, name, offer, height
 unfoldable pub inputs : List Case
 inputs =
     -- proposal 1 0 50 -1 1 9
-    reads (112 ∷ 114 ∷ 111 ∷ 112 ∷ 111 ∷ 115 ∷ 97 ∷ 108 ∷ 32 ∷ 49 ∷ 32 ∷ 48 ∷ 32 ∷ 53 ∷ 48 ∷ 32 ∷ 45 ∷ 49 ∷ 32 ∷ 49 ∷ 32 ∷ 57 ∷ []) (good_input (input 2 1 0 0 1 50 9 7)) ∷
+    reads (112 ∷ 114 ∷ 111 ∷ 112 ∷ 111 ∷ 115 ∷ 97 ∷ 108 ∷ 32 ∷ 49 ∷ 32 ∷ 48 ∷ 32 ∷ 53 ∷ 48 ∷ 32 ∷ 45 ∷ 49 ∷ 32 ∷ 49 ∷ 32 ∷ 57 ∷ []) (Some (input 2 1 0 0 1 50 9 7)) ∷
     -- start 0 0 0 -1 0 0
-    reads (115 ∷ 116 ∷ 97 ∷ 114 ∷ 116 ∷ 32 ∷ 48 ∷ 32 ∷ 48 ∷ 32 ∷ 48 ∷ 32 ∷ 45 ∷ 49 ∷ 32 ∷ 48 ∷ 32 ∷ 48 ∷ []) (good_input (input 1 0 0 0 0 0 0 7)) ∷
+    reads (115 ∷ 116 ∷ 97 ∷ 114 ∷ 116 ∷ 32 ∷ 48 ∷ 32 ∷ 48 ∷ 32 ∷ 48 ∷ 32 ∷ 45 ∷ 49 ∷ 32 ∷ 48 ∷ 32 ∷ 48 ∷ []) (Some (input 1 0 0 0 0 0 0 7)) ∷
     -- prevote 2 3 50 -1 0 9
-    reads (112 ∷ 114 ∷ 101 ∷ 118 ∷ 111 ∷ 116 ∷ 101 ∷ 32 ∷ 50 ∷ 32 ∷ 51 ∷ 32 ∷ 53 ∷ 48 ∷ 32 ∷ 45 ∷ 49 ∷ 32 ∷ 48 ∷ 32 ∷ 57 ∷ []) (good_input (input 3 2 3 0 0 50 9 7)) ∷
+    reads (112 ∷ 114 ∷ 101 ∷ 118 ∷ 111 ∷ 116 ∷ 101 ∷ 32 ∷ 50 ∷ 32 ∷ 51 ∷ 32 ∷ 53 ∷ 48 ∷ 32 ∷ 45 ∷ 49 ∷ 32 ∷ 48 ∷ 32 ∷ 57 ∷ []) (Some (input 3 2 3 0 0 50 9 7)) ∷
     -- precommit 31 15 50 -1 0 9
-    reads (112 ∷ 114 ∷ 101 ∷ 99 ∷ 111 ∷ 109 ∷ 109 ∷ 105 ∷ 116 ∷ 32 ∷ 51 ∷ 49 ∷ 32 ∷ 49 ∷ 53 ∷ 32 ∷ 53 ∷ 48 ∷ 32 ∷ 45 ∷ 49 ∷ 32 ∷ 48 ∷ 32 ∷ 57 ∷ []) (good_input (input 4 31 15 0 0 50 9 7)) ∷
+    reads (112 ∷ 114 ∷ 101 ∷ 99 ∷ 111 ∷ 109 ∷ 109 ∷ 105 ∷ 116 ∷ 32 ∷ 51 ∷ 49 ∷ 32 ∷ 49 ∷ 53 ∷ 32 ∷ 53 ∷ 48 ∷ 32 ∷ 45 ∷ 49 ∷ 32 ∷ 48 ∷ 32 ∷ 57 ∷ []) (Some (input 4 31 15 0 0 50 9 7)) ∷
     -- timer-propose 0 1 0 -1 0 9
-    reads (116 ∷ 105 ∷ 109 ∷ 101 ∷ 114 ∷ 45 ∷ 112 ∷ 114 ∷ 111 ∷ 112 ∷ 111 ∷ 115 ∷ 101 ∷ 32 ∷ 48 ∷ 32 ∷ 49 ∷ 32 ∷ 48 ∷ 32 ∷ 45 ∷ 49 ∷ 32 ∷ 48 ∷ 32 ∷ 57 ∷ []) (good_input (input 5 0 1 0 0 0 9 7)) ∷
+    reads (116 ∷ 105 ∷ 109 ∷ 101 ∷ 114 ∷ 45 ∷ 112 ∷ 114 ∷ 111 ∷ 112 ∷ 111 ∷ 115 ∷ 101 ∷ 32 ∷ 48 ∷ 32 ∷ 49 ∷ 32 ∷ 48 ∷ 32 ∷ 45 ∷ 49 ∷ 32 ∷ 48 ∷ 32 ∷ 57 ∷ []) (Some (input 5 0 1 0 0 0 9 7)) ∷
     -- timer-prevote 0 2 0 -1 0 9
-    reads (116 ∷ 105 ∷ 109 ∷ 101 ∷ 114 ∷ 45 ∷ 112 ∷ 114 ∷ 101 ∷ 118 ∷ 111 ∷ 116 ∷ 101 ∷ 32 ∷ 48 ∷ 32 ∷ 50 ∷ 32 ∷ 48 ∷ 32 ∷ 45 ∷ 49 ∷ 32 ∷ 48 ∷ 32 ∷ 57 ∷ []) (good_input (input 6 0 2 0 0 0 9 7)) ∷
+    reads (116 ∷ 105 ∷ 109 ∷ 101 ∷ 114 ∷ 45 ∷ 112 ∷ 114 ∷ 101 ∷ 118 ∷ 111 ∷ 116 ∷ 101 ∷ 32 ∷ 48 ∷ 32 ∷ 50 ∷ 32 ∷ 48 ∷ 32 ∷ 45 ∷ 49 ∷ 32 ∷ 48 ∷ 32 ∷ 57 ∷ []) (Some (input 6 0 2 0 0 0 9 7)) ∷
     -- timer-precommit 0 10 0 -1 0 9
-    reads (116 ∷ 105 ∷ 109 ∷ 101 ∷ 114 ∷ 45 ∷ 112 ∷ 114 ∷ 101 ∷ 99 ∷ 111 ∷ 109 ∷ 109 ∷ 105 ∷ 116 ∷ 32 ∷ 48 ∷ 32 ∷ 49 ∷ 48 ∷ 32 ∷ 48 ∷ 32 ∷ 45 ∷ 49 ∷ 32 ∷ 48 ∷ 32 ∷ 57 ∷ []) (good_input (input 7 0 10 0 0 0 9 7)) ∷
+    reads (116 ∷ 105 ∷ 109 ∷ 101 ∷ 114 ∷ 45 ∷ 112 ∷ 114 ∷ 101 ∷ 99 ∷ 111 ∷ 109 ∷ 109 ∷ 105 ∷ 116 ∷ 32 ∷ 48 ∷ 32 ∷ 49 ∷ 48 ∷ 32 ∷ 48 ∷ 32 ∷ 45 ∷ 49 ∷ 32 ∷ 48 ∷ 32 ∷ 57 ∷ []) (Some (input 7 0 10 0 0 0 9 7)) ∷
     -- proposal 0 6 70 5 1 9
-    reads (112 ∷ 114 ∷ 111 ∷ 112 ∷ 111 ∷ 115 ∷ 97 ∷ 108 ∷ 32 ∷ 48 ∷ 32 ∷ 54 ∷ 32 ∷ 55 ∷ 48 ∷ 32 ∷ 53 ∷ 32 ∷ 49 ∷ 32 ∷ 57 ∷ []) (good_input (input 2 0 6 6 1 70 9 7)) ∷
+    reads (112 ∷ 114 ∷ 111 ∷ 112 ∷ 111 ∷ 115 ∷ 97 ∷ 108 ∷ 32 ∷ 48 ∷ 32 ∷ 54 ∷ 32 ∷ 55 ∷ 48 ∷ 32 ∷ 53 ∷ 32 ∷ 49 ∷ 32 ∷ 57 ∷ []) (Some (input 2 0 6 6 1 70 9 7)) ∷
     -- proposal 0 6 70 0 1 9
-    reads (112 ∷ 114 ∷ 111 ∷ 112 ∷ 111 ∷ 115 ∷ 97 ∷ 108 ∷ 32 ∷ 48 ∷ 32 ∷ 54 ∷ 32 ∷ 55 ∷ 48 ∷ 32 ∷ 48 ∷ 32 ∷ 49 ∷ 32 ∷ 57 ∷ []) (good_input (input 2 0 6 1 1 70 9 7)) ∷
+    reads (112 ∷ 114 ∷ 111 ∷ 112 ∷ 111 ∷ 115 ∷ 97 ∷ 108 ∷ 32 ∷ 48 ∷ 32 ∷ 54 ∷ 32 ∷ 55 ∷ 48 ∷ 32 ∷ 48 ∷ 32 ∷ 49 ∷ 32 ∷ 57 ∷ []) (Some (input 2 0 6 1 1 70 9 7)) ∷
     -- proposal 255 255 18446744073709551615 254 255 18446744073709551615
-    reads (112 ∷ 114 ∷ 111 ∷ 112 ∷ 111 ∷ 115 ∷ 97 ∷ 108 ∷ 32 ∷ 50 ∷ 53 ∷ 53 ∷ 32 ∷ 50 ∷ 53 ∷ 53 ∷ 32 ∷ 49 ∷ 56 ∷ 52 ∷ 52 ∷ 54 ∷ 55 ∷ 52 ∷ 52 ∷ 48 ∷ 55 ∷ 51 ∷ 55 ∷ 48 ∷ 57 ∷ 53 ∷ 53 ∷ 49 ∷ 54 ∷ 49 ∷ 53 ∷ 32 ∷ 50 ∷ 53 ∷ 52 ∷ 32 ∷ 50 ∷ 53 ∷ 53 ∷ 32 ∷ 49 ∷ 56 ∷ 52 ∷ 52 ∷ 54 ∷ 55 ∷ 52 ∷ 52 ∷ 48 ∷ 55 ∷ 51 ∷ 55 ∷ 48 ∷ 57 ∷ 53 ∷ 53 ∷ 49 ∷ 54 ∷ 49 ∷ 53 ∷ []) (good_input (input 2 255 255 255 255 18446744073709551615 18446744073709551615 7)) ∷
+    reads (112 ∷ 114 ∷ 111 ∷ 112 ∷ 111 ∷ 115 ∷ 97 ∷ 108 ∷ 32 ∷ 50 ∷ 53 ∷ 53 ∷ 32 ∷ 50 ∷ 53 ∷ 53 ∷ 32 ∷ 49 ∷ 56 ∷ 52 ∷ 52 ∷ 54 ∷ 55 ∷ 52 ∷ 52 ∷ 48 ∷ 55 ∷ 51 ∷ 55 ∷ 48 ∷ 57 ∷ 53 ∷ 53 ∷ 49 ∷ 54 ∷ 49 ∷ 53 ∷ 32 ∷ 50 ∷ 53 ∷ 52 ∷ 32 ∷ 50 ∷ 53 ∷ 53 ∷ 32 ∷ 49 ∷ 56 ∷ 52 ∷ 52 ∷ 54 ∷ 55 ∷ 52 ∷ 52 ∷ 48 ∷ 55 ∷ 51 ∷ 55 ∷ 48 ∷ 57 ∷ 53 ∷ 53 ∷ 49 ∷ 54 ∷ 49 ∷ 53 ∷ []) (Some (input 2 255 255 255 255 18446744073709551615 18446744073709551615 7)) ∷
     []
 
 unfoldable pub no_inputs : List (List ℕ)
@@ -125,6 +126,6 @@ pub inputs_right : map (λ (c : Case). parsed c.line height) inputs ≡ map (λ 
 unfolding the_choices the_text the_reading inputs
 inputs_right = refl
 
-pub no_inputs_right : map (λ (l : List ℕ). parsed l height) no_inputs ≡ map (λ (l : List ℕ). no_input height) no_inputs
+pub no_inputs_right : map (λ (l : List ℕ). parsed l height) no_inputs ≡ map (λ (l : List ℕ). None) no_inputs
 unfolding the_choices the_text the_reading no_inputs
 no_inputs_right = refl

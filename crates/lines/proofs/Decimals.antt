@@ -1,12 +1,13 @@
 -- Laws of numbers in decimal: what a word of digits says, and that no other word is written like it. Assumes nothing.
 use Prim.Native.Nat.{ℕ, zero, suc, ◌+◌, ◌*◌, ◌-◌, ◌/◌, ◌%◌, ◌^◌, ◌≤◌, ◌<◌}
-use mathlib.Core.Path.{◌≡◌, refl, ap, sym, ◌∙◌}
-use mathlib.Core.Bool.{Bool, true, false, not, ◌&&◌, false≢true}
+use mathlib.Core.Path.{◌≡◌, refl, ap, sym, subst, ◌∙◌}
+use mathlib.Core.Bool.{true, false, not, ◌&&◌, false≢true}
 use mathlib.Core.Logic.{◌⊎◌, ⊎_elim, inl, inr}
 use mathlib.Core.List.{List, [], ◌∷◌, ◌++◌, append-nil}
 use native.Mathlib.Nat.{pow-suc}
 use native.Mathlib.Numerals.{add-one}
 use native.Mathlib.Omega.{arith}
+use Rattle.std.proofs.lemmas.Option.{none-some, same_Some}
 use borrow.Author.Tests.{le-leb, lt-leb, leb-true, lt-ltb, ltb-true, ltb-false, ne_eqb, eqb-false, not-true}
 use lib.Dec.{leb, ltb, eqb}
 use lib.ListN.{length, drop, get_or, length-append, drop_of_length-le}
@@ -15,8 +16,8 @@ use Rattle.words.specs.Members.{In}
 use Rattle.words.proofs.Choice.{by_test, by_cases, and_left, and_right}
 use Rattle.listing.specs.Text.{digits, decimal}
 use Rattle.listing.proofs.Digits.{digits_one, digits_more, digits_are, digits_first, read_on, reads_digits}
-use Rattle.lines.specs.declared.Number.{Number}
-use Rattle.lines.specs.Reading.{same, said_on, said, is, none, number_word}
+use Rattle.std.specs.Prelude.{Option, Some, None}
+use Rattle.lines.specs.Reading.{same, said_on, said, number_word}
 use Rattle.lines.specs.InContracts.Digits.{is_digit, all_digits, plain, digits_word}
 use Rattle.lines.proofs.Words.{same_self, same_is, same_not, wordy}
 
@@ -27,21 +28,15 @@ module _ (w : List ℕ) (i v : ℕ) (h : i < length w) where
   unfolding said_on
   said_more = rw (drop-cons w i 0, add-one)
 
-  pub digits_go_on : 48 ≤ get_or w i 0 → get_or w i 0 ≤ 57 → all_digits (drop i w) ≡ all_digits (drop (i + 1) w)
+  pub digits_here : all_digits (drop i w) ≡ (is_digit (get_or w i 0) && all_digits (drop (i + 1) w))
   unfolding all_digits
-  digits_go_on a b = rw (drop-cons w i 0, le-leb 48 (get_or w i 0) a, le-leb (get_or w i 0) 57 b, add-one)
+  digits_here = rw (drop-cons w i 0, add-one)
 
-  pub below_digits : get_or w i 0 < 48 → all_digits (drop i w) ≡ false
-  unfolding all_digits
-  below_digits a = rw (drop-cons w i 0, lt-leb 48 (get_or w i 0) a)
+  pub digits_go_on : is_digit (get_or w i 0) ≡ true → all_digits (drop i w) ≡ all_digits (drop (i + 1) w)
+  digits_go_on d = digits_here ∙ rw d
 
-  pub above_digits : 57 < get_or w i 0 → all_digits (drop i w) ≡ false
-  unfolding all_digits
-  above_digits a = rw (drop-cons w i 0, lt-leb (get_or w i 0) 57 a) (no_and (leb 48 (get_or w i 0)) _)
-    where
-      no_and : (t s : Bool) → (t && false && s) ≡ false
-      no_and true s = refl
-      no_and false s = refl
+  pub no_digit : is_digit (get_or w i 0) ≡ false → all_digits (drop i w) ≡ false
+  no_digit d = digits_here ∙ rw d
 
 -- what is said never falls
 pub said_grows : (w : List ℕ) (v : ℕ) → v ≤ said_on v w
@@ -50,26 +45,26 @@ said_grows [] v = omega arith
 said_grows (b ∷ w) v = omega (arith, said_grows w (10 * v + (b - 48)))
 
 -- the answers of a word of digits
-pub digits_none : (most : ℕ) (w : List ℕ) → all_digits w ≡ false → none ≡ digits_word most w
+pub digits_none : (most : ℕ) (w : List ℕ) → all_digits w ≡ false → None ≡ digits_word most w
 unfolding digits_word
 digits_none most w e = rw e (by_cases (leb (said w) most) (λ t. rw t) (λ t. rw t))
 
-pub digits_high : (most : ℕ) (w : List ℕ) → most < said w → none ≡ digits_word most w
+pub digits_high : (most : ℕ) (w : List ℕ) → most < said w → None ≡ digits_word most w
 unfolding digits_word
 digits_high most w h = rw (lt-leb (said w) most h)
 
-pub digits_good : (most : ℕ) (w : List ℕ) → all_digits w ≡ true → said w ≤ most → is (said w) ≡ digits_word most w
+pub digits_good : (most : ℕ) (w : List ℕ) → all_digits w ≡ true → said w ≤ most → Some (said w) ≡ digits_word most w
 unfolding digits_word
 digits_good most w e h = rw (le-leb (said w) most h, e)
 
 -- at the end of the word
 pub digits_done : (most : ℕ) (w : List ℕ) (i v : ℕ) → length w ≤ i → v ≤ most → said w ≡ said_on v (drop i w) → all_digits w ≡ all_digits (drop i w)
-    → is v ≡ digits_word most w
+    → Some v ≡ digits_word most w
 unfolding said_on all_digits
 digits_done most w i v h b s d =
     let z : drop i w ≡ [] = drop_of_length-le w h in
     let x : said w ≡ v = s ∙ ap (said_on v) z in
-    sym (ap is x) ∙ digits_good most w (d ∙ ap all_digits z) (omega arith)
+    sym (ap Some x) ∙ digits_good most w (d ∙ ap all_digits z) (omega arith)
 
 -- ---- a plain word, by its length and first byte
 
@@ -194,7 +189,7 @@ module _ (most : ℕ) (fits : most < 2 ^ 64) (w : List ℕ) where
       (λ t. rw (digits_same p (leb-true (said w) most t)))
       (λ t. rw t)
 
-  pub number_not_plain : plain w ≡ false → none ≡ number_word most w
+  pub number_not_plain : plain w ≡ false → None ≡ number_word most w
   unfolding number_word
   number_not_plain p =
       by_cases (leb (said w) most)
@@ -204,19 +199,17 @@ module _ (most : ℕ) (fits : most < 2 ^ 64) (w : List ℕ) where
 
 -- ---- what is good is written so, and what is written is good
 
-pub number_below : (most : ℕ) (w : List ℕ) → (number_word most w).value ≤ most
+pub number_written : (most : ℕ) (w : List ℕ) (x : ℕ) → number_word most w ≡ Some x → (x ≤ most) × (w ≡ decimal x)
 unfolding number_word
-number_below most w =
-    by_test (λ (n : Number). n.value ≤ most) (leb (said w) most && same w (decimal (said w)))
-    (λ t. leb-true (said w) most (and_left (leb (said w) most) (same w (decimal (said w))) t))
-    (λ t. omega arith)
-
-pub number_written : (most : ℕ) (w : List ℕ) → (number_word most w).good ≡ true → w ≡ decimal (number_word most w).value
-unfolding number_word
-number_written most w =
-    by_test (λ (n : Number). n.good ≡ true → w ≡ decimal n.value) (leb (said w) most && same w (decimal (said w)))
-    (λ t g. same_is w (decimal (said w)) (and_right (leb (said w) most) (same w (decimal (said w))) t))
-    (λ t g. absurd (false≢true g))
+number_written most w x =
+    by_test (λ (n : Option ℕ). n ≡ Some x → (x ≤ most) × (w ≡ decimal x)) (leb (said w) most && same w (decimal (said w)))
+    (λ t g.
+    let y : said w ≡ x = same_Some _ _ g in
+    subst (λ (x : ℕ). (x ≤ most) × (w ≡ decimal x)) y (
+      leb-true (said w) most (and_left (leb (said w) most) (same w (decimal (said w))) t),
+      same_is w (decimal (said w)) (and_right (leb (said w) most) (same w (decimal (said w))) t),
+    ))
+    (λ t g. absurd (none-some x g))
 
 said_reads : (n : ℕ) (w : List ℕ) → said_on n w ≡ read_on n w
 unfolding said_on read_on
@@ -226,7 +219,7 @@ said_reads n (b ∷ w) = said_reads (10 * n + (b - 48)) w
 pub said_decimal : (x : ℕ) → x < 2 ^ 64 → said (decimal x) ≡ x
 said_decimal x h = said_reads 0 (decimal x) ∙ reads_digits x h
 
-pub number_read : (most x : ℕ) → most < 2 ^ 64 → x ≤ most → number_word most (decimal x) ≡ is x
+pub number_read : (most x : ℕ) → most < 2 ^ 64 → x ≤ most → number_word most (decimal x) ≡ Some x
 unfolding number_word
 number_read most x f h = rw (said_decimal x (omega arith), le-leb x most h, same_self (decimal x))
 

@@ -1,21 +1,19 @@
 -- Exactly the words of inputs are read: an input's words as that input, and nothing else as one. Assumes nothing.
 use Prim.Native.Nat.{ℕ, suc, ◌+◌, ◌≤◌}
-use mathlib.Core.Path.{◌≡◌, refl, ap, sym, ◌∙◌}
-use mathlib.Core.Bool.{true, false, ◌&&◌, false≢true}
+use mathlib.Core.Path.{◌≡◌, refl, ap, sym, subst, ◌∙◌}
 use mathlib.Core.List.{List, [], ◌∷◌, ◌++◌, append_assoc}
 use native.Mathlib.Omega.{arith}
 use lib.ListN.{length, length-append}
-use Rattle.words.proofs.Choice.{by_test, by_cases, and_left, and_right}
+use Rattle.std.specs.Prelude.{Option, Some, None}
+use Rattle.std.proofs.lemmas.Option.{none-some, same_Some}
 use Rattle.roll.specs.declared.Height.{Height}
 use Rattle.rules.specs.declared.Input.{Input}
 use Rattle.listing.specs.Text.{space, newline, decimal, valid_round, input_word, line}
 use Rattle.listing.specs.Listing.{call_line}
-use Rattle.lines.specs.declared.Number.{Number}
-use Rattle.lines.specs.declared.Parsed.{Parsed}
-use Rattle.lines.specs.Reading.{spaced, input_words, Fits, first_word, after_word, is, number_word, valid_word, kind_of, kind_word, no_input, good_input, gathered, most_8, most_64, parsed, Exact}
+use Rattle.lines.specs.Reading.{spaced, input_words, Fits, first_word, after_word, number_word, valid_word, kind_word, gathered, most_8, most_64, parsed, Exact}
 use Rattle.lines.proofs.Words.{joined, first_of_line, after_first}
-use Rattle.lines.proofs.Decimals.{number_below, number_written, number_read, decimal_wordy, decimal_some}
-use Rattle.lines.proofs.Line.{kind_from, kind_to, kind_written, kind_read, kind_wordy, valid_to, valid_written, valid_read, valid_wordy}
+use Rattle.lines.proofs.Decimals.{number_written, number_read, decimal_wordy, decimal_some}
+use Rattle.lines.proofs.Line.{kind_written, kind_read, kind_wordy, valid_written, valid_read, valid_wordy}
 
 -- ---- the lister's call line
 
@@ -43,7 +41,7 @@ call_line_words place i =
 -- ---- an input's words are read back
 
 -- the words of a line, one by one
-parsed_by : (height : Height) (l : List ℕ) {l₁ l₂ l₃ l₄ l₅ l₆ w w₁ w₂ w₃ w₄ w₅ : List ℕ}
+pub parsed_by : (height : Height) (l : List ℕ) {l₁ l₂ l₃ l₄ l₅ l₆ w w₁ w₂ w₃ w₄ w₅ : List ℕ}
     → first_word l ≡ w → after_word l ≡ l₁
     → first_word l₁ ≡ w₁ → after_word l₁ ≡ l₂
     → first_word l₂ ≡ w₂ → after_word l₂ ≡ l₃
@@ -55,13 +53,8 @@ parsed_by : (height : Height) (l : List ℕ) {l₁ l₂ l₃ l₄ l₅ l₆ w w�
 unfolding parsed
 parsed_by height l f a f₁ a₁ f₂ a₂ f₃ a₃ f₄ a₄ f₅ a₅ = rw (a, a₁, a₂, a₃, a₄, a₅, f, f₁, f₂, f₃, f₄, f₅)
 
-gathered_good : (i : Input)
-    → gathered i.height (is i.kind) (is i.sender) (is i.round.0) (is i.name) (is i.valid.0) (is i.verdict) (is i.offer) ≡ good_input i
-unfolding gathered
-gathered_good i = refl
-
-pub words_read_back : (i : Input) → Fits i → parsed (input_words i) i.height ≡ good_input i
-unfolding spaced
+pub words_read_back : (i : Input) → Fits i → parsed (input_words i) i.height ≡ Some i
+unfolding spaced gathered
 words_read_back i f =
     let kind = kind_wordy i.kind in
     let sender = decimal_wordy i.sender in
@@ -85,38 +78,8 @@ words_read_back i f =
       number_read most_8 i.verdict (omega arith) f.verdict,
       number_read most_64 i.offer (omega arith) f.offer,
     )
-    (gathered_good i)
 
 -- ---- nothing else is read
-
--- all seven fields are good
-pub record Good (kind sender round name valid verdict offer : Number) : Type 0 where
-  pub kind_good : kind.good ≡ true
-  pub sender_good : sender.good ≡ true
-  pub round_good : round.good ≡ true
-  pub name_good : name.good ≡ true
-  pub valid_good : valid.good ≡ true
-  pub verdict_good : verdict.good ≡ true
-  pub offer_good : offer.good ≡ true
-
-all_good : (kind sender round name valid verdict offer : Number)
-    → (kind.good && (sender.good && (round.good && (name.good && (valid.good && (verdict.good && offer.good)))))) ≡ true
-    → Good kind sender round name valid verdict offer
-all_good k s r n v d o e =
-    let e₁ = and_right k.good _ e in
-    let e₂ = and_right s.good _ e₁ in
-    let e₃ = and_right r.good _ e₂ in
-    let e₄ = and_right n.good _ e₃ in
-    let e₅ = and_right v.good _ e₄ in
-    record {
-      kind_good = and_left k.good _ e;
-      sender_good = and_left s.good _ e₁;
-      round_good = and_left r.good _ e₂;
-      name_good = and_left n.good _ e₃;
-      valid_good = and_left v.good _ e₄;
-      verdict_good = and_left d.good _ e₅;
-      offer_good = and_right d.good _ e₅;
-    }
 
 -- a word, and then a line of which something is left
 join : (l w rest : List ℕ) → first_word l ≡ w → after_word l ≡ rest → 1 ≤ length rest → (l ≡ w ++ (space ∷ rest)) × (1 ≤ length l)
@@ -125,100 +88,109 @@ join l w rest f a h =
     let n : length l ≡ length w + suc (length rest) = ap length e ∙ length-append w (space ∷ rest) in
     (e, omega arith)
 
--- a line of good fields is their words
-words_of : (l l₁ l₂ l₃ l₄ l₅ l₆ : List ℕ) → after_word l ≡ l₁ → after_word l₁ ≡ l₂ → after_word l₂ ≡ l₃ → after_word l₃ ≡ l₄ → after_word l₄ ≡ l₅ → after_word l₅ ≡ l₆
-    → Good (kind_word (first_word l)) (number_word most_8 (first_word l₁)) (number_word most_8 (first_word l₂)) (number_word most_64 (first_word l₃))
-    (valid_word (first_word l₄)) (number_word most_8 (first_word l₅)) (number_word most_64 l₆)
-    → l
-    ≡ spaced
-    (input_word (kind_of (first_word l)) ∷
-    decimal (number_word most_8 (first_word l₁)).value ∷
-    decimal (number_word most_8 (first_word l₂)).value ∷
-    decimal (number_word most_64 (first_word l₃)).value ∷
-    valid_round (valid_word (first_word l₄)).value ∷
-    decimal (number_word most_8 (first_word l₅)).value ∷
-    decimal (number_word most_64 l₆).value ∷
-    [])
-unfolding spaced
-words_of l l₁ l₂ l₃ l₄ l₅ l₆ a a₁ a₂ a₃ a₄ a₅ g =
-    let o = number_written most_64 l₆ g.offer_good in
-    let d = join l₅ _ _ (number_written most_8 (first_word l₅) g.verdict_good) (a₅ ∙ o) (decimal_some (number_word most_64 l₆).value) in
-    let v = join l₄ _ _ (valid_written (first_word l₄) g.valid_good) (a₄ ∙ d.0) (rw d.0 at d.1) in
-    let n = join l₃ _ _ (number_written most_64 (first_word l₃) g.name_good) (a₃ ∙ v.0) (rw v.0 at v.1) in
-    let r = join l₂ _ _ (number_written most_8 (first_word l₂) g.round_good) (a₂ ∙ n.0) (rw n.0 at n.1) in
-    let s = join l₁ _ _ (number_written most_8 (first_word l₁) g.sender_good) (a₁ ∙ r.0) (rw r.0 at r.1) in
-    (join l _ _ (kind_written (first_word l) g.kind_good) (a ∙ s.0) (rw s.0 at s.1)).0
+-- the fields of an input, each from its word
+pub record Reads (i : Input) (height : Height) (kind sender round name valid verdict offer : Option ℕ) : Type 0 where
+  pub kind_is : kind ≡ Some i.kind
+  pub sender_is : sender ≡ Some i.sender
+  pub round_is : round ≡ Some i.round.0
+  pub name_is : name ≡ Some i.name
+  pub valid_is : valid ≡ Some i.valid.0
+  pub verdict_is : verdict ≡ Some i.verdict
+  pub offer_is : offer ≡ Some i.offer
+  pub height_is : i.height ≡ height
 
--- what is gathered of good fields, and of others
-module _ (height : Height) (kind sender round name valid verdict offer : Number) where
-  gathers_only : (P : Parsed → Type 0)
-      → (Good kind sender round name valid verdict offer
-      → P (good_input record {
-        kind = kind.value;
-        height = height;
-        sender = sender.value;
-        round = record { 0 = round.value };
-        valid = record { 0 = valid.value };
-        verdict = verdict.value;
-        name = name.value;
-        offer = offer.value;
-      }))
-      → P (no_input height)
-      → P (gathered height kind sender round name valid verdict offer)
-  unfolding gathered
-  gathers_only P f g =
-      by_test P (kind.good && (sender.good && (round.good && (name.good && (valid.good && (verdict.good && offer.good))))))
-      (λ e. f (all_good kind sender round name valid verdict offer e)) (λ e. g)
+-- what is gathered is gathered from all seven
+gathered_from : (height : Height) (kind sender round name valid verdict offer : Option ℕ) (i : Input)
+    → gathered height kind sender round name valid verdict offer ≡ Some i → Reads i height kind sender round name valid verdict offer
+unfolding gathered
+gathered_from height None s r n v d o i e = absurd (none-some i e)
+gathered_from height (Some k) None r n v d o i e = absurd (none-some i e)
+gathered_from height (Some k) (Some s) None n v d o i e = absurd (none-some i e)
+gathered_from height (Some k) (Some s) (Some r) None v d o i e = absurd (none-some i e)
+gathered_from height (Some k) (Some s) (Some r) (Some n) None d o i e = absurd (none-some i e)
+gathered_from height (Some k) (Some s) (Some r) (Some n) (Some v) None o i e = absurd (none-some i e)
+gathered_from height (Some k) (Some s) (Some r) (Some n) (Some v) (Some d) None i e = absurd (none-some i e)
+gathered_from height (Some k) (Some s) (Some r) (Some n) (Some v) (Some d) (Some o) i e =
+    subst (λ (i : Input). Reads i height (Some k) (Some s) (Some r) (Some n) (Some v) (Some d) (Some o)) (same_Some _ _ e)
+    record { kind_is = refl; sender_is = refl; round_is = refl; name_is = refl; valid_is = refl; verdict_is = refl; offer_is = refl; height_is = refl }
 
--- what holds of the input of good fields, and of none, holds of what a line is read as
-parsed_is : (line : List ℕ) (height : Height) (P : Parsed → Type 0)
-    → ((i : Input) → line ≡ input_words i → Fits i → i.height ≡ height → P (good_input i)) → P (no_input height) → P (parsed line height)
-unfolding parsed
-parsed_is line height P f g =
-    gathers_only height _ _ _ _ _ _ _ P
-    (λ good. f _ (words_of line _ _ _ _ _ _ refl refl refl refl refl refl good)
-    record {
-      kind_from = kind_from (first_word line) good.kind_good;
-      kind_to = kind_to (first_word line);
-      sender = number_below most_8 _;
-      round = number_below most_8 _;
-      name = number_below most_64 _;
-      valid = valid_to _;
-      verdict = number_below most_8 _;
-      offer = number_below most_64 _;
-    }
-    refl)
-    g
+-- a line that is read as an input is the input's words
+module _ (l : List ℕ) (height : Height) (i : Input) (e : parsed l height ≡ Some i) where
+  abbrev l₁ : List ℕ
+  l₁ = after_word l
+
+  abbrev l₂ : List ℕ
+  l₂ = after_word l₁
+
+  abbrev l₃ : List ℕ
+  l₃ = after_word l₂
+
+  abbrev l₄ : List ℕ
+  l₄ = after_word l₃
+
+  abbrev l₅ : List ℕ
+  l₅ = after_word l₄
+
+  abbrev l₆ : List ℕ
+  l₆ = after_word l₅
+
+  fields : Reads i height (kind_word (first_word l)) (number_word most_8 (first_word l₁)) (number_word most_8 (first_word l₂)) (number_word most_64 (first_word l₃))
+      (valid_word (first_word l₄)) (number_word most_8 (first_word l₅)) (number_word most_64 l₆)
+  unfolding parsed
+  fields = gathered_from height _ _ _ _ _ _ _ i e
+
+  words_are : (l ≡ input_words i) × Fits i
+  unfolding spaced
+  words_are =
+      let kind = kind_written (first_word l) i.kind fields.kind_is in
+      let sender = number_written most_8 (first_word l₁) i.sender fields.sender_is in
+      let round = number_written most_8 (first_word l₂) i.round.0 fields.round_is in
+      let name = number_written most_64 (first_word l₃) i.name fields.name_is in
+      let valid = valid_written (first_word l₄) i.valid.0 fields.valid_is in
+      let verdict = number_written most_8 (first_word l₅) i.verdict fields.verdict_is in
+      let offer = number_written most_64 l₆ i.offer fields.offer_is in
+      let d = join l₅ _ _ verdict.1 offer.1 (decimal_some i.offer) in
+      let v = join l₄ _ _ valid.1 d.0 (rw d.0 at d.1) in
+      let n = join l₃ _ _ name.1 v.0 (rw v.0 at v.1) in
+      let r = join l₂ _ _ round.1 n.0 (rw n.0 at n.1) in
+      let s = join l₁ _ _ sender.1 r.0 (rw r.0 at r.1) in (
+        (join l _ _ kind.2 s.0 (rw s.0 at s.1)).0,
+        record {
+          kind_from = kind.0;
+          kind_to = kind.1;
+          sender = sender.0;
+          round = round.0;
+          name = name.0;
+          valid = valid.0;
+          verdict = verdict.0;
+          offer = offer.0;
+        },
+      )
 
 pub parsed_exact : Exact parsed
 parsed_exact = record {
   back = words_read_back;
-  only = λ line height. parsed_is line height (λ r. r.is_good ≡ true → line ≡ input_words r.input) (λ i e f h t. e) (λ t. absurd (false≢true t));
-  fits = λ line height. parsed_is line height (λ r. r.is_good ≡ true → Fits r.input) (λ i e f h t. f) (λ t. absurd (false≢true t));
-  same_height = λ line height. parsed_is line height (λ r. r.input.height ≡ height) (λ i e f h. h) refl;
-  other = λ line height. parsed_is line height (λ r. r.is_good ≡ false → r ≡ no_input height) (λ i e f h t. absurd (false≢true (sym t))) (λ t. refl);
+  only = λ line height i e. (words_are line height i e).0;
+  fits = λ line height i e. (words_are line height i e).1;
+  same_height = λ line height i e. (fields line height i e).height_is;
 }
 
 -- ---- and so there is one reply
 
 -- two replies that meet the promise are equal
-pub one_reply : (line : List ℕ) (height : Height) (r s : Parsed) → r ≡ parsed line height → s ≡ parsed line height → r ≡ s
+pub one_reply : (line : List ℕ) (height : Height) (r s : Option Input) → r ≡ parsed line height → s ≡ parsed line height → r ≡ s
 one_reply line height r s e f = e ∙ sym f
 
 -- where one reader finds an input, any other finds the same
-agrees : (f g : List ℕ → Height → Parsed) → Exact f → Exact g → (line : List ℕ) (height : Height) → (f line height).is_good ≡ true → g line height ≡ good_input (f line height).input
-agrees f g ef eg line height t =
-    let i = (f line height).input in
-    ap (λ (l : List ℕ). g l height) (ef.only line height t) ∙ ap (g (input_words i)) (sym (ef.same_height line height)) ∙ eg.back i (ef.fits line height t)
+agrees : (f g : List ℕ → Height → Option Input) → Exact f → Exact g → (line : List ℕ) (height : Height) (i : Input) → f line height ≡ Some i → g line height ≡ Some i
+agrees f g ef eg line height i e =
+    ap (λ (l : List ℕ). g l height) (ef.only line height i e) ∙ ap (g (input_words i)) (sym (ef.same_height line height i e)) ∙ eg.back i (ef.fits line height i e)
 
 -- what is proved of the definition decides every reply: no other reader has it
-pub one_reader : (f g : List ℕ → Height → Parsed) → Exact f → Exact g → (line : List ℕ) (height : Height) → f line height ≡ g line height
-one_reader f g ef eg line height =
-    by_cases (f line height).is_good
-    (λ t. whole (f line height) t ∙ sym (agrees f g ef eg line height t))
-    (λ t. by_cases (g line height).is_good
-    (λ u. agrees g f eg ef line height u ∙ sym (whole (g line height) u))
-    (λ u. ef.other line height t ∙ sym (eg.other line height u)))
+pub one_reader : (f g : List ℕ → Height → Option Input) → Exact f → Exact g → (line : List ℕ) (height : Height) → f line height ≡ g line height
+one_reader f g ef eg line height = same (f line height) (g line height) refl refl
   where
-    whole : (r : Parsed) → r.is_good ≡ true → r ≡ good_input r.input
-    whole r t = rw t
+    same : (r s : Option Input) → f line height ≡ r → g line height ≡ s → f line height ≡ g line height
+    same (Some i) s e h = e ∙ sym (agrees f g ef eg line height i e)
+    same None (Some i) e h = agrees g f eg ef line height i h ∙ sym h
+    same None None e h = e ∙ sym h

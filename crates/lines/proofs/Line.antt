@@ -1,30 +1,21 @@
 -- Laws of the fields of a line: what each can be, and the line as they follow one another. Assumes nothing.
 use Prim.Native.Nat.{ℕ, zero, suc, pred, ◌-◌, ◌≤◌, ◌<◌}
-use mathlib.Core.Path.{◌≡◌, refl, ap, sym, ◌∙◌}
+use mathlib.Core.Path.{◌≡◌, refl, ap, sym, subst, ◌∙◌}
 use mathlib.Core.Bool.{true, false, false≢true}
 use mathlib.Core.List.{List, [], ◌∷◌}
 use native.Mathlib.Omega.{arith}
+use Rattle.std.proofs.lemmas.Option.{none-some, same_Some}
 use borrow.Author.Tests.{ltb-true}
-use borrow.Rule.Slice.PartMut.{mid_of}
-use lib.Dec.{eqb}
-use lib.ListN.{length, drop}
+use lib.Dec.{eqb, ltb}
 use Rattle.words.specs.Choice.{first_of}
 use Rattle.words.proofs.Choice.{by_test, first_passes}
-use Rattle.words.proofs.ByteLaws.{mid_all}
-use Rattle.roll.specs.declared.Height.{Height}
 use Rattle.listing.specs.Text.{decimal, valid_round, input_word}
 use Rattle.listing.proofs.Digits.{valid_some}
-use Rattle.lines.specs.declared.Number.{Number}
-use Rattle.lines.specs.Reading.{same, first_word, is, plus_one, number_word, valid_word, kind_of, kind_word, gathered, most_8, most_64, parsed}
+use Rattle.std.specs.Prelude.{Option, Some, None, option_map}
+use Rattle.lines.specs.Reading.{same, number_word, valid_word, kind_of, kind_word, most_8}
 use Rattle.lines.specs.InContracts.Digits.{all_digits}
-use Rattle.lines.specs.InContracts.Fields.{Follows}
 use Rattle.lines.proofs.Words.{same_is, same_not, wordy}
-use Rattle.lines.proofs.Decimals.{number_below, number_written, number_read, decimal_digits, decimal_wordy}
-
--- ---- a number of one byte
-
-pub below_256 : (w : List ℕ) → (number_word most_8 w).value < 256
-below_256 w = omega (arith, number_below most_8 w)
+use Rattle.lines.proofs.Decimals.{number_written, number_read, decimal_digits, decimal_wordy}
 
 -- ---- the kind
 
@@ -39,20 +30,35 @@ kind_to w =
     (λ e. by_test (λ (k : ℕ). k ≤ 7) (same w (input_word 6)) (λ e. omega arith)
     (λ e. by_test (λ (k : ℕ). k ≤ 7) (same w (input_word 7)) (λ e. omega arith) (λ e. omega arith)))))))
 
-pub kind_below : (w : List ℕ) → kind_of w < 256
-kind_below w = omega (arith, kind_to w)
-
-pub kind_from : (w : List ℕ) → (kind_word w).good ≡ true → 1 ≤ kind_of w
-kind_from w t = ltb-true 0 (kind_of w) t
-
--- a good kind's word is its own
-pub kind_written : (w : List ℕ) → (kind_word w).good ≡ true → w ≡ input_word (kind_of w)
+-- a kind's word is its own
+pub kind_written : (w : List ℕ) (k : ℕ) → kind_word w ≡ Some k → (1 ≤ k) × (k ≤ 7) × (w ≡ input_word k)
 unfolding kind_of
-kind_written w t =
+kind_written w k =
+    by_test (λ (o : Option ℕ). o ≡ Some k → (1 ≤ k) × (k ≤ 7) × (w ≡ input_word k)) (ltb 0 (kind_of w))
+    (λ t g.
     let h = ltb-true 0 (kind_of w) t in
-    same_is w (input_word (kind_of w)) (first_passes (1 ∷ 2 ∷ 3 ∷ 4 ∷ 5 ∷ 6 ∷ 7 ∷ []) (λ kind. same w (input_word kind)) (λ e. omega (arith, e, h)))
+    let own = same_is w (input_word (kind_of w)) (first_passes (1 ∷ 2 ∷ 3 ∷ 4 ∷ 5 ∷ 6 ∷ 7 ∷ []) (λ kind. same w (input_word kind)) (λ e. omega (arith, e, h))) in
+    subst (λ (k : ℕ). (1 ≤ k) × (k ≤ 7) × (w ≡ input_word k)) (same_Some _ _ g) (h, kind_to w, own))
+    (λ t g. absurd (none-some k g))
 
-pub kind_read : (k : ℕ) → 1 ≤ k → k ≤ 7 → kind_word (input_word k) ≡ is k
+-- the kind of a word that is of no kind before this one, and of a word that is of none
+pub kind_first : (w : List ℕ) (n : ℕ) → 1 ≤ n → n ≤ 7 → ((k : ℕ) → 1 ≤ k → k < n → same w (input_word k) ≡ false) → same w (input_word n) ≡ true → kind_of w ≡ n
+unfolding kind_of first_of
+kind_first w zero a b f e = absurd (omega arith)
+kind_first w (suc zero) a b f e = rw (e)
+kind_first w (suc (suc zero)) a b f e = rw (f 1 (omega arith) (omega arith), e)
+kind_first w (suc (suc (suc zero))) a b f e = rw (f 1 (omega arith) (omega arith), f 2 (omega arith) (omega arith), e)
+kind_first w (suc (suc (suc (suc zero)))) a b f e = rw (f 1 (omega arith) (omega arith), f 2 (omega arith) (omega arith), f 3 (omega arith) (omega arith), e)
+kind_first w (suc (suc (suc (suc (suc zero))))) a b f e = rw (f 1 (omega arith) (omega arith), f 2 (omega arith) (omega arith), f 3 (omega arith) (omega arith), f 4 (omega arith) (omega arith), e)
+kind_first w (suc (suc (suc (suc (suc (suc zero)))))) a b f e = rw (f 1 (omega arith) (omega arith), f 2 (omega arith) (omega arith), f 3 (omega arith) (omega arith), f 4 (omega arith) (omega arith), f 5 (omega arith) (omega arith), e)
+kind_first w (suc (suc (suc (suc (suc (suc (suc zero))))))) a b f e = rw (f 1 (omega arith) (omega arith), f 2 (omega arith) (omega arith), f 3 (omega arith) (omega arith), f 4 (omega arith) (omega arith), f 5 (omega arith) (omega arith), f 6 (omega arith) (omega arith), e)
+kind_first w (suc (suc (suc (suc (suc (suc (suc (suc n)))))))) a b f e = absurd (omega arith)
+
+pub kind_none : (w : List ℕ) → ((k : ℕ) → 1 ≤ k → k < 8 → same w (input_word k) ≡ false) → kind_of w ≡ 0
+unfolding kind_of first_of
+kind_none w f = rw (f 1 (omega arith) (omega arith), f 2 (omega arith) (omega arith), f 3 (omega arith) (omega arith), f 4 (omega arith) (omega arith), f 5 (omega arith) (omega arith), f 6 (omega arith) (omega arith), f 7 (omega arith) (omega arith))
+
+pub kind_read : (k : ℕ) → 1 ≤ k → k ≤ 7 → kind_word (input_word k) ≡ Some k
 unfolding kind_of first_of same input_word
 kind_read zero a b = absurd (omega arith)
 kind_read (suc zero) a b = refl
@@ -76,38 +82,28 @@ kind_wordy k =
 
 -- ---- the valid round
 
-pub plus_good : (n : Number) (x : ℕ) → n.good ≡ true → x ≡ suc n.value → is x ≡ plus_one n
-plus_good n x t e = rw (t, e)
-
-pub valid_to : (w : List ℕ) → (valid_word w).value ≤ most_8
+-- a valid round's word is its own
+pub valid_written : (w : List ℕ) (next : ℕ) → valid_word w ≡ Some next → (next ≤ most_8) × (w ≡ valid_round next)
 unfolding valid_word
-valid_to w =
-    let h = number_below 254 w in
-    by_test (λ (n : Number). n.value ≤ most_8) (same w (valid_round 0)) (λ e. omega arith)
-    (λ e. by_test (λ (n : Number). n.value ≤ most_8) (number_word 254 w).good (λ t. omega arith) (λ t. omega arith))
-
-pub valid_below : (w : List ℕ) → (valid_word w).value < 256
-valid_below w = omega (arith, valid_to w)
-
--- a good valid round's word is its own
-pub valid_written : (w : List ℕ) → (valid_word w).good ≡ true → w ≡ valid_round (valid_word w).value
-unfolding valid_word
-valid_written w =
-    by_test (λ (n : Number). n.good ≡ true → w ≡ valid_round n.value) (same w (valid_round 0))
-    (λ e t. same_is w (valid_round 0) e)
-    (λ e. by_test (λ (n : Number). n.good ≡ true → w ≡ valid_round n.value) (number_word 254 w).good
-    (λ g t.
-    let x = (number_word 254 w).value in
-    let z : suc x - 1 ≡ x = omega arith in
-    number_written 254 w g ∙ sym (valid_some (suc x) (λ c. omega arith) ∙ ap decimal z))
-    (λ g t. absurd (false≢true (sym g ∙ t))))
+valid_written w next =
+    by_test (λ (o : Option ℕ). o ≡ Some next → (next ≤ most_8) × (w ≡ valid_round next)) (same w (valid_round 0))
+    (λ e g. subst (λ (n : ℕ). (n ≤ most_8) × (w ≡ valid_round n)) (same_Some _ _ g) (omega arith, same_is w (valid_round 0) e))
+    (λ e. some (number_word 254 w) refl)
+  where
+    some : (o : Option ℕ) → number_word 254 w ≡ o → option_map suc o ≡ Some next → (next ≤ most_8) × (w ≡ valid_round next)
+    some None f g = absurd (none-some next g)
+    some (Some x) f g =
+        let n = number_written 254 w x f in
+        let z : suc x - 1 ≡ x = omega arith in
+        subst (λ (n : ℕ). (n ≤ most_8) × (w ≡ valid_round n)) (same_Some _ _ g)
+        (omega arith, n.1 ∙ sym (valid_some (suc x) (λ c. omega arith) ∙ ap decimal z))
 
 -- no number is written as none
 none_apart : (x : ℕ) → same (decimal x) (valid_round 0) ≡ false
 unfolding all_digits
 none_apart x = same_not (decimal x) (valid_round 0) (λ e. false≢true (sym (ap all_digits e) ∙ decimal_digits x))
 
-pub valid_read : (next : ℕ) → next ≤ most_8 → valid_word (valid_round next) ≡ is next
+pub valid_read : (next : ℕ) → next ≤ most_8 → valid_word (valid_round next) ≡ Some next
 unfolding valid_word same
 valid_read zero h = refl
 valid_read (suc x) h =
@@ -115,25 +111,9 @@ valid_read (suc x) h =
     let e : valid_round (suc x) ≡ decimal x = valid_some (suc x) (λ c. omega arith) ∙ ap decimal z in
     ap valid_word e ∙ some x (none_apart x) (number_read 254 x (omega arith) (omega arith))
   where
-    some : (x : ℕ) → same (decimal x) (valid_round 0) ≡ false → number_word 254 (decimal x) ≡ is x → valid_word (decimal x) ≡ is (suc x)
+    some : (x : ℕ) → same (decimal x) (valid_round 0) ≡ false → number_word 254 (decimal x) ≡ Some x → valid_word (decimal x) ≡ Some (suc x)
     some x e f = rw (e, f)
 
 pub valid_wordy : (next : ℕ) → wordy (valid_round next) ≡ true
 unfolding wordy
 valid_wordy next = by_test (λ (w : List ℕ). wordy w ≡ true) (eqb next 0) (λ e. refl) (λ e. decimal_wordy (pred next))
-
--- ---- the line, field by field
-
-pub walked : (l : List ℕ) (height : Height) {p₁ p₂ p₃ p₄ p₅ p₆ : ℕ}
-    → Follows l 0 p₁ → Follows l p₁ p₂ → Follows l p₂ p₃ → Follows l p₃ p₄ → Follows l p₄ p₅ → Follows l p₅ p₆
-    → gathered height
-    (kind_word (first_word l))
-    (number_word most_8 (first_word (drop p₁ l)))
-    (number_word most_8 (first_word (drop p₂ l)))
-    (number_word most_64 (first_word (drop p₃ l)))
-    (valid_word (first_word (drop p₄ l)))
-    (number_word most_8 (first_word (drop p₅ l)))
-    (number_word most_64 (mid_of p₆ (length l - p₆) l))
-    ≡ parsed l height
-unfolding parsed
-walked l height {p₁} {p₂} {p₃} {p₄} {p₅} {p₆} f₁ f₂ f₃ f₄ f₅ f₆ = rw (mid_all p₆ l, f₆.rest, f₅.rest, f₄.rest, f₃.rest, f₂.rest, f₁.rest)

@@ -1,25 +1,23 @@
 -- Laws of words: two that are the same, and the first of a line with what follows it. Assumes nothing.
-use Rattle.std.specs.Bool.{if◌then◌else◌}
-use Prim.Native.Nat.{ℕ, suc, ◌+◌, ◌-◌, ◌≤◌, ◌<◌}
+use Rattle.std.specs.Bool.{one_answer}
+use Rattle.std.specs.Prelude.{Option, Some, None, cond, bytes_eq}
+use Rattle.std.proofs.lemmas.Slice.Eq.{slice_eq-Decides}
+use Rattle.std.proofs.lemmas.Bool.Decides.{Decides-eqb}
+use Rattle.std.specs.List.{position_or_len}
+use Rattle.std.proofs.lemmas.List.Recursion.{is_position_or_len}
+use Prim.Native.Nat.{ℕ, suc, ◌≤◌}
 use mathlib.Core.Path.{◌≡◌, refl, ap, sym, ◌∙◌}
 use mathlib.Core.Bool.{Bool, true, false, not, ◌&&◌, false≢true}
-use mathlib.Core.List.{List, [], ◌∷◌, ◌++◌, append-nil}
-use native.Mathlib.Numerals.{add-one}
+use mathlib.Core.List.{List, [], ◌∷◌, ◌++◌}
 use native.Mathlib.Omega.{arith}
-use borrow.Author.Tests.{eq-eqb, ne_eqb, eqb-true, not-true}
-use lib.Dec.{eqb}
-use lib.ListN.{length, take, drop, get_or, length-drop, drop_of_length-le}
-use lib.Seq.{drop-cons, drop-drop}
-use borrow.Rule.Slice.PartMut.{mid_of}
-use Rattle.words.specs.Bytes.{compared}
-use Rattle.words.specs.declared.Reading.{Reading}
-use Rattle.words.specs.declared.Reading.TheVariants.{Whole, Unfinished, Damage}
-use Rattle.words.proofs.Choice.{by_test, by_cases, and_left, and_right, zero_one}
-use Rattle.words.proofs.ByteLaws.{mid_all}
-use Rattle.words.proofs.Compared.{compared_self}
+use Rattle.std.proofs.lemmas.List.{take_all}
+use Rattle.std.proofs.lemmas.Option.{none-some, same_Some}
+use borrow.Author.Tests.{ltb-false, eq-eqb, eqb-true, not-true}
+use lib.Dec.{eqb, ltb}
+use lib.ListN.{length, take, drop, drop_of_length-le}
+use Rattle.words.proofs.Choice.{by_test, by_cases, and_left, and_right}
 use Rattle.listing.specs.Text.{space}
 use Rattle.lines.specs.Reading.{first_word, after_word, same}
-use Rattle.lines.specs.InContracts.Fields.{Follows}
 
 -- ---- two words
 
@@ -42,60 +40,12 @@ same_self (b ∷ w) = rw (eq-eqb b b refl) (same_self w)
 pub same_not : (w v : List ℕ) → (w ≡ v → ⊥) → same w v ≡ false
 same_not w v n = by_cases (same w v) (λ e. absurd (n (same_is w v e))) (λ e. e)
 
--- by their lengths, and by comparison
-pub same_length : (w v : List ℕ) → (length w ≡ length v → ⊥) → same w v ≡ false
-same_length w v n = same_not w v (λ e. n (ap length e))
-
-compared_same : (w v : List ℕ) → w ≡ v → compared w v ≡ Whole
-compared_same w v e =
-    let self : compared v v ≡ Whole = rw (append-nil v) at (compared_self v []) in
-    ap (λ (x : List ℕ). compared x v) e ∙ self
-
-module _ (w v : List ℕ) (r : Reading) (c : r ≡ compared w v) where
-  pub same_short : r ≡ Unfinished → same w v ≡ false
-  same_short u = same_not w v (λ e. never r (c ∙ compared_same w v e) u)
-    where
-      never : (r : Reading) → r ≡ Whole → r ≡ Unfinished → ⊥
-      never r p q = zero_one (cc)
-
-  pub same_other : r ≡ Damage → same w v ≡ false
-  same_other u = same_not w v (λ e. never r (c ∙ compared_same w v e) u)
-    where
-      never : (r : Reading) → r ≡ Whole → r ≡ Damage → ⊥
-      never r p q = zero_one (cc)
-
-both : (t s : Bool) (r : Reading) → (if t then r else Damage) ≡ Whole → (r ≡ Whole → s ≡ true) → (t && s) ≡ true
-both true s r e f = f e
-both false s r e f = absurd (zero_one (cc))
-
-pub same_whole : (w v : List ℕ) → length w ≡ length v → compared w v ≡ Whole → same w v ≡ true
-unfolding same compared
-same_whole [] [] l e = refl
-same_whole [] (c ∷ v) l e = absurd (omega arith)
-same_whole (b ∷ w) [] l e = absurd (omega arith)
-same_whole (b ∷ w) (c ∷ v) l e = both (eqb b c) (same w v) (compared w v) e (same_whole w v (omega arith))
-
--- ---- the first word's size, byte by byte from place i on
-
-module _ (l : List ℕ) (i : ℕ) where
-  pub size_end : length l ≤ i → length (first_word (drop i l)) ≡ 0
-  unfolding first_word
-  size_end h = rw (drop_of_length-le l h)
-
-  pub size_space : i < length l → get_or l i 0 ≡ 32 → length (first_word (drop i l)) ≡ 0
-  unfolding first_word
-  size_space h e = rw (drop-cons l i 0, e)
-
-  pub size_more : i < length l → (get_or l i 0 ≡ 32 → ⊥) → length (first_word (drop i l)) ≡ suc (length (first_word (drop (i + 1) l)))
-  unfolding first_word
-  size_more h n = rw (drop-cons l i 0, ne_eqb (get_or l i 0) 32 n, add-one)
+-- std's answer whether two words are the same
+pub same_decided : (w v : List ℕ) (t : Bool) → t ≡ bytes_eq w v → t ≡ same w v
+same_decided w v t e =
+    one_answer t (same w v) (slice_eq-Decides Decides-eqb w v t e) (same_is w v, λ f. ap (same w) (sym f) ∙ same_self w)
 
 -- ---- the first word and the rest, as parts of the line
-
-pub size_within : (l : List ℕ) → length (first_word l) ≤ length l
-unfolding first_word
-size_within [] = omega arith
-size_within (b ∷ l) = by_test (λ (w : List ℕ). length w ≤ suc (length l)) (eqb b space) (λ e. omega arith) (λ e. let h = size_within l in omega arith)
 
 pub first_taken : (l : List ℕ) → take (length (first_word l)) l ≡ first_word l
 unfolding first_word
@@ -107,30 +57,34 @@ unfolding first_word after_word
 after_dropped [] = refl
 after_dropped (b ∷ l) = by_cases (eqb b space) (λ e. rw e) (λ e. rw e (after_dropped l))
 
--- ---- a field: `n` is the size of the word from place `at` on
+-- ---- the first space of a line, where there is one
 
-module _ (l : List ℕ) (at n : ℕ) (h : at ≤ length l) (e : n ≡ length (first_word (mid_of at (length l - at) l))) where
-  size_is : n ≡ length (first_word (drop at l))
-  size_is = e ∙ ap (λ (m : List ℕ). length (first_word m)) (mid_all at l)
+abbrev pub is_space : ℕ → Bool
+is_space b = eqb b space
 
-  pub field_room : at + n ≤ length l
-  field_room =
-      let k = size_within (drop at l) in
-      let d = length-drop at l in
-      omega (arith, size_is)
+size_is : (l : List ℕ) → length (first_word l) ≡ position_or_len is_space l
+unfolding first_word
+size_is = is_position_or_len (λ l. length (first_word l)) is_space refl (λ b l. by_cases (eqb b space) (λ e. rw e) (λ e. rw e (omega arith)))
 
-  pub field_word : mid_of at (at + n - at) l ≡ first_word (drop at l)
-  field_word =
-      let z : at + n - at ≡ n = omega arith in
-      ap (λ (k : ℕ). take k (drop at l)) (z ∙ size_is) ∙ first_taken (drop at l)
+module _ (l : List ℕ) (r : Option ℕ) (e : r ≡ cond (ltb (position_or_len is_space l) (length l)) (Some (position_or_len is_space l)) None) where
+  pub space_at : (at : ℕ) → r ≡ Some at → at ≡ length (first_word l)
+  space_at at f =
+      by_cases (ltb (position_or_len is_space l) (length l))
+      (λ t. let g : Some (position_or_len is_space l) ≡ Some at = rw t at (sym e ∙ f) in sym (same_Some _ _ g) ∙ sym (size_is l))
+      (λ t. let g : None ≡ Some at = rw t at (sym e ∙ f) in absurd (none-some at g))
 
-  pub field_next : (next : ℕ) → next ≤ length l → drop next l ≡ drop (suc (at + n)) l → Follows l at next
-  field_next next within d =
-      let s : suc (at + n) ≡ at + suc n = omega arith in
-      record {
-        within = within;
-        rest = d ∙ ap (λ (k : ℕ). drop k l) s ∙ sym (drop-drop (suc n) at l) ∙ ap (λ (k : ℕ). drop (suc k) (drop at l)) size_is ∙ after_dropped (drop at l);
-      }
+  pub no_space : r ≡ None → length l ≤ length (first_word l)
+  no_space f =
+      by_cases (ltb (position_or_len is_space l) (length l))
+      (λ t. let g : Some (position_or_len is_space l) ≡ None = rw t at (sym e ∙ f) in absurd (none-some _ (sym g)))
+      (λ t. rw (size_is l) (ltb-false _ _ t))
+
+-- a line without a space is its first word, and nothing follows it
+pub first_is_all : (l : List ℕ) → length l ≤ length (first_word l) → l ≡ first_word l
+first_is_all l h = sym (take_all (length (first_word l)) l h) ∙ first_taken l
+
+pub nothing_after : (l : List ℕ) → length l ≤ length (first_word l) → [] ≡ after_word l
+nothing_after l h = sym (drop_of_length-le l {i = suc (length (first_word l))} (omega arith)) ∙ after_dropped l
 
 -- ---- a line that goes on after its first word is that word, a space and the rest
 

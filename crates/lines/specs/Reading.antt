@@ -1,12 +1,10 @@
 -- What a line of text reads as: an input, where it is exactly that input's words as the lister writes them. 01, "Whole listing".
 -- Assumes nothing.
-use Rattle.std.specs.Prelude.{ℕ, suc, ◌+◌, ◌*◌, ◌-◌, ◌≤◌, ◌≡◌, List, [], ◌∷◌, ◌++◌, Bool, true, false, ◌&&◌, leb, ltb, eqb, if◌then◌else◌}
+use Rattle.std.specs.Prelude.{ℕ, suc, ◌+◌, ◌*◌, ◌-◌, ◌≤◌, ◌≡◌, List, [], ◌∷◌, ◌++◌, Bool, true, false, ◌&&◌, leb, ltb, eqb, if◌then◌else◌, Option, Some, None, option_map}
 use Rattle.words.specs.Choice.{first_of}
 use Rattle.roll.specs.declared.Height.{Height}
 use Rattle.rules.specs.declared.Input.{Input}
 use Rattle.listing.specs.Text.{space, decimal, valid_round, input_word}
-use Rattle.lines.specs.declared.Number.{Number}
-use Rattle.lines.specs.declared.Parsed.{Parsed}
 
 -- ## The words of an input
 
@@ -71,12 +69,6 @@ same (b ∷ w) (c ∷ v) = eqb b c && same w v
 
 -- ## A word as a number
 
-abbrev pub is : ℕ → Number
-is x = record { value = x; good = true }
-
-abbrev pub none : Number
-none = record { value = 0; good = false }
-
 -- the number that digits say, the highest first
 unfoldable pub said_on : ℕ → List ℕ → ℕ
 said_on x [] = x
@@ -86,61 +78,39 @@ abbrev pub said : List ℕ → ℕ
 said word = said_on 0 word
 
 -- a number in decimal, up to `most`: what the word says is written as the word is
-unfoldable pub number_word : ℕ → List ℕ → Number
-number_word most word = if leb (said word) most && same word (decimal (said word)) then is (said word) else none
+unfoldable pub number_word : ℕ → List ℕ → Option ℕ
+number_word most word = if leb (said word) most && same word (decimal (said word)) then Some (said word) else None
 
 -- a valid round, in its plus_one form: -1 is none
-abbrev pub plus_one : Number → Number
-plus_one n = if n.good then is (suc n.value) else n
-
-unfoldable pub valid_word : List ℕ → Number
-valid_word word = if same word (valid_round 0) then is 0 else plus_one (number_word 254 word)
+unfoldable pub valid_word : List ℕ → Option ℕ
+valid_word word = if same word (valid_round 0) then Some 0 else option_map suc (number_word 254 word)
 
 -- the kind whose word it is; 0 where there is none
 unfoldable pub kind_of : List ℕ → ℕ
 kind_of word = first_of (1 ∷ 2 ∷ 3 ∷ 4 ∷ 5 ∷ 6 ∷ 7 ∷ []) (λ kind. same word (input_word kind))
 
-abbrev pub kind_word : List ℕ → Number
-kind_word word = record { value = kind_of word; good = ltb 0 (kind_of word) }
+abbrev pub kind_word : List ℕ → Option ℕ
+kind_word word = if ltb 0 (kind_of word) then Some (kind_of word) else None
 
 -- ## A line as an input
 
--- all zeros, but for the height
-abbrev pub no_input : Height → Parsed
-no_input height = record {
-  input = record {
-    kind = 0;
-    height = height;
-    sender = 0;
-    round = record { 0 = 0 };
-    valid = record { 0 = 0 };
-    verdict = 0;
-    name = 0;
-    offer = 0;
-  };
-  is_good = false;
-}
-
-abbrev pub good_input : Input → Parsed
-good_input i = record { input = i; is_good = true }
-
-unfoldable pub gathered : Height → Number → Number → Number → Number → Number → Number → Number → Parsed
-gathered height kind sender round name valid verdict offer =
-    if kind.good && (sender.good && (round.good && (name.good && (valid.good && (verdict.good && offer.good)))))
-    then good_input record {
-      kind = kind.value;
+-- where each field is a number
+unfoldable pub gathered : Height → Option ℕ → Option ℕ → Option ℕ → Option ℕ → Option ℕ → Option ℕ → Option ℕ → Option Input
+gathered height (Some kind) (Some sender) (Some round) (Some name) (Some valid) (Some verdict) (Some offer) =
+    Some record {
+      kind = kind;
       height = height;
-      sender = sender.value;
-      round = record { 0 = round.value };
-      valid = record { 0 = valid.value };
-      verdict = verdict.value;
-      name = name.value;
-      offer = offer.value;
+      sender = sender;
+      round = record { 0 = round };
+      valid = record { 0 = valid };
+      verdict = verdict;
+      name = name;
+      offer = offer;
     }
-    else no_input height
+gathered height kind sender round name valid verdict offer = None
 
 -- `KIND SENDER ROUND NAME VALID VERDICT OFFER`; the offer is all that is left
-unfoldable pub parsed : List ℕ → Height → Parsed
+unfoldable pub parsed : List ℕ → Height → Option Input
 parsed line height =
     let from_sender = after_word line in
     let from_round = after_word from_sender in
@@ -159,15 +129,13 @@ parsed line height =
 
 -- ## What is proved of it: exactly the words of inputs are read
 
-pub record Exact (reads : List ℕ → Height → Parsed) : Type 0 where
+pub record Exact (reads : List ℕ → Height → Option Input) : Type 0 where
   -- an input's words are read as that input
-  pub back : (i : Input) → Fits i → reads (input_words i) i.height ≡ good_input i
-  -- a line that is good is the words of the input that it is read as
-  pub only : (line : List ℕ) (height : Height) → (reads line height).is_good ≡ true → line ≡ input_words (reads line height).input
-  pub fits : (line : List ℕ) (height : Height) → (reads line height).is_good ≡ true → Fits (reads line height).input
-  pub same_height : (line : List ℕ) (height : Height) → (reads line height).input.height ≡ height
-  -- any other is no input
-  pub other : (line : List ℕ) (height : Height) → (reads line height).is_good ≡ false → reads line height ≡ no_input height
+  pub back : (i : Input) → Fits i → reads (input_words i) i.height ≡ Some i
+  -- a line that is read is the words of the input that it is read as; any other is none
+  pub only : (line : List ℕ) (height : Height) (i : Input) → reads line height ≡ Some i → line ≡ input_words i
+  pub fits : (line : List ℕ) (height : Height) (i : Input) → reads line height ≡ Some i → Fits i
+  pub same_height : (line : List ℕ) (height : Height) (i : Input) → reads line height ≡ Some i → i.height ≡ height
 
 -- To compute with this file: `unfolding the_reading` opens the above.
 unfoldable pub the_reading : Unit {0}

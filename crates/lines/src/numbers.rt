@@ -1,79 +1,57 @@
 // A word as a number in decimal, as the lister writes it: no sign, no zero in front.
 ghost use Rattle.std.specs.Prelude.{◌≤◌, ◌≡◌};
-ghost use Rattle.lines.specs.Reading.{is, none, number_word};
-ghost use Rattle.lines.specs.InContracts.Digits.{plain, digits_word};
+ghost use Rattle.lines.specs.Reading.{number_word, most_8};
+ghost use Rattle.lines.specs.InContracts.Digits.{digits_word, plain};
 
-use crate::Number;
-
-// The highest number of 64 bits.
-pub const MOST: u64 = 18446744073709551615;
-
-fn good(value: u64) -> Number
-    ensures { result ≡ is value }
-{
-    Number { value, good: true }
-}
-
-fn no_number() -> Number
-    ensures { result ≡ none }
-{
-    Number {
-        value: 0,
-        good: false,
-    }
-}
-
-fn wide(b: u8) -> u64
-    ensures { result ≡ b }
-{
-    b as u64
-}
-
-// The number that a word of digits says, up to `most`.
-fn digits(word: &[u8], most: u64) -> Number
+// The number that a word of digits says, up to `most`. By hand: `parse` takes a sign too, and its bound is the type's.
+#[tactic(auto, using(crate::proofs::Decimals::digits_done))]
+fn digits(word: &[u8], most: u64) -> Option<u64>
     requires { 9 ≤ most }
     ensures { result ≡ digits_word most word.now }
 {
     let mut value: u64 = 0;
-    let mut i: usize = 0;
-    while i < word.len() {
-        let b = wide(word[i]);
-        if b < 48 {
-            return no_number();
+    for byte in word {
+        if !byte.is_ascii_digit() {
+            return None;
         }
-        if 57 < b {
-            return no_number();
-        }
-        let digit = b - 48;
+        let digit = u64::from(*byte - b'0');
         if (most - digit) / 10 < value {
-            return no_number();
+            return None;
         }
         value = 10 * value + digit;
-        i += 1;
     }
-    good(value)
+    Some(value)
 }
 
 // Not empty, and with no zero before another digit.
+#[tactic(auto, using(crate::proofs::Decimals::plain_empty, crate::proofs::Decimals::plain_one, crate::proofs::Decimals::plain_more))]
 fn is_plain(word: &[u8]) -> bool
     ensures { result ≡ plain word.now }
 {
-    if word.len() == 0 {
-        return false;
+    match word {
+        [] => false,
+        [_] => true,
+        [first, ..] => *first != b'0',
     }
-    if word.len() == 1 {
-        return true;
-    }
-    word[0] != 48
 }
 
 // The number that is written as this word is, up to `most`.
-pub fn number(word: &[u8], most: u64) -> Number
+#[tactic(auto, using(crate::proofs::Decimals::number_plain, crate::proofs::Decimals::number_not_plain))]
+pub fn number(word: &[u8], most: u64) -> Option<u64>
     requires { 9 ≤ most }
     ensures { result ≡ number_word most word.now }
 {
     if is_plain(word) {
-        return digits(word, most);
+        digits(word, most)
+    } else {
+        None
     }
-    no_number()
+}
+
+// A number of one byte.
+pub fn byte(word: &[u8]) -> Option<u8>
+    ensures { result ≡ number_word most_8 word.now }
+{
+    let value = number(word, 255)?;
+    Some(value as u8)
 }

@@ -7,7 +7,6 @@ use mathlib.Core.List.{List, [], ◌∷◌, ◌++◌, append-nil}
 use mathlib.Core.Bool.{true}
 use lib.ListN.{length, take}
 use Rattle.words.specs.Members.{In}
-use Rattle.words.proofs.Choice.{zero_one}
 use Rattle.roll.specs.declared.Roll.{Roll}
 use Rattle.rules.specs.declared.Output.{Output}
 use Rattle.rules.specs.Log.{table_length}
@@ -67,7 +66,7 @@ wakes_and_sends powers height keeps fits tall third w reach i hi ki d eb p n op 
     let h = q.history in
     let file = (opened_so (law m i hi) q.holds eb op).1 in
     ⊎_elim
-    (λ u. let z = (law m i hi).unmade_opens d u.0 (opened p n) op in absurd (zero_one (cc)))
+    (λ u. let z = (law m i hi).unmade_opens d u.0 (opened p n) op in absurd (cc))
     (λ l.
     let out = listed_out h.history d l.0 l.1 l.2 area table begins places x a in
     send i p (take n d) (act x) hi ki ev (subst (λ (f : List ℕ). In (act x) (acts (sent_in (records f)))) (sym file) out) (λ j. refl) refl)

@@ -10,7 +10,6 @@ use borrow.Author.Tests.{ne_eqb}
 use lib.Dec.{eqb}
 use Rattle.words.specs.Choice.{the_choices}
 use Rattle.words.specs.Members.{In}
-use Rattle.words.proofs.Choice.{zero_one}
 use Rattle.roll.specs.Weighing.{power_of, total_of, roll_fits, the_weighing}
 use Rattle.rules.specs.declared.Input.{Input}
 use Rattle.journal.specs.Layout.{group_length}
@@ -175,8 +174,8 @@ unfolding the_stories
 even_six = record { created = creates even 2 even_fits tall 1 (omega arith); fit = refl; taken = refl; sent = refl }
 
 not_settled : {r u v : ℕ} → In (settled r u) (other ∷ prevote 0 v ∷ []) → ⊥
-not_settled (inl e) = zero_one (cc)
-not_settled (inr (inl e)) = zero_one (cc)
+not_settled (inl e) = cc
+not_settled (inr (inl e)) = cc
 not_settled {r = r} {u = u} {v = v} (inr (inr x)) = elim x [ ]
 
 -- seat 0 prevotes 5, seat 1 prevotes 6, and no rule-keeping kiosk settles

@@ -6,7 +6,7 @@ use mathlib.Core.List.{List, [], ◌∷◌, ◌++◌}
 use mathlib.Core.Bool.{true, ◌&&◌, not}
 use native.Mathlib.Omega.{arith}
 use lib.Dec.{eqb}
-use Rattle.words.proofs.Choice.{by_test, zero_one}
+use Rattle.words.proofs.Choice.{by_test}
 use Rattle.roll.specs.declared.Roll.{Roll}
 use Rattle.roll.specs.Weighing.{proposer}
 use Rattle.rules.specs.declared.Step.TheVariants.{Propose, Prevote, Precommit}
@@ -27,10 +27,10 @@ use Rattle.market.proofs.Good.{acts_more, Hears, Logs, Good, heard_more, logs_mo
 
 -- a timer, and a proposal, is no vote and no settling
 no_vote_other : NoVote (other ∷ [])
-no_vote_other r w = (⊎_elim (λ e. zero_one (cc)) (λ h. h), ⊎_elim (λ e. zero_one (cc)) (λ h. h), ⊎_elim (λ e. zero_one (cc)) (λ h. h))
+no_vote_other r w = (⊎_elim (λ e. cc) (λ h. h), ⊎_elim (λ e. cc) (λ h. h), ⊎_elim (λ e. cc) (λ h. h))
 
 no_vote_proposal : (l : List ℕ) → NoVote (proposal l ∷ [])
-no_vote_proposal l r w = (⊎_elim (λ e. zero_one (cc)) (λ h. h), ⊎_elim (λ e. zero_one (cc)) (λ h. h), ⊎_elim (λ e. zero_one (cc)) (λ h. h))
+no_vote_proposal l r w = (⊎_elim (λ e. cc) (λ h. h), ⊎_elim (λ e. cc) (λ h. h), ⊎_elim (λ e. cc) (λ h. h))
 
 -- where a kiosk stands once it is at this step of this round, with the lock that it has
 abbrev standing : ℕ → ℕ → Desk → View

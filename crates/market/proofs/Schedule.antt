@@ -13,7 +13,7 @@ use lib.Seq.{take_at, take-length, take-append-add}
 use Rattle.words.specs.Choice.{the_choices}
 use Rattle.words.specs.Bytes.{in_order, overwrite}
 use Rattle.words.specs.Members.{In}
-use Rattle.words.proofs.Choice.{and_left, and_right, zero_one}
+use Rattle.words.proofs.Choice.{and_left, and_right}
 use Rattle.roll.specs.declared.Roll.{Roll}
 use Rattle.roll.specs.Weighing.{roll_fits, the_weighing}
 use Rattle.rules.specs.declared.Input.{Input}
@@ -415,11 +415,11 @@ module _ (m : Setting) where
       out_story {o} (awake p d eb a) =
           let same : d ≡ file_after roll is = cc in
           subst (λ (l : List Out). In o l) (ap (λ (f : List ℕ). acts (sent_in (records f))) same ∙ story_outputs is s) a
-      out_story (asleep d p used eb op a) = absurd (zero_one (cc))
+      out_story (asleep d p used eb op a) = absurd (cc)
 
     -- by one without a journal: nothing
     pub says_nothing : w.board i ≡ off [] → {o : Out} → OutOf o → ⊥
-    says_nothing e (awake p d eb a) = zero_one (cc)
+    says_nothing e (awake p d eb a) = cc
     says_nothing e (asleep d p used eb op a) =
         let c = creates m.powers m.height m.fits m.tall i k.on_roll in
         let no_byte : d ≡ [] = cc in
@@ -427,4 +427,4 @@ module _ (m : Setting) where
         = op.meets.answer ∙ ap (λ (f : List ℕ). (open_journal op.area (length f) op.table).answer) no_byte
         ∙ ap (λ (o : Opened). o.answer) (unwritten c op.area op.table op.places) in
         let said : opened p used ≡ no_header = op.answers ∙ ap (λ (a : Answer). opening_of a (record { kiosk = op.reply.kiosk; table = op.after })) short in
-        zero_one (cc)
+        cc

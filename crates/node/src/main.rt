@@ -11,35 +11,18 @@ mod tell;
 
 use std::fs::File;
 use std::rt::{Env, Runtime};
-use words::Reading;
-use words::bytes::compare;
-
-fn is_word(verb: &[u8], word: &[u8]) -> bool {
-    match compare(verb, word) {
-        Reading::Whole => verb.len() == word.len(),
-        Reading::Unfinished => false,
-        Reading::Damage => false,
-    }
-}
 
 fn command<R: Runtime<File = File>>(rt: &R, verb: &[u8], path: &str, count: usize) {
-    if is_word(verb, b"create") {
-        make::create(rt, path, count);
-        return;
+    let done = match verb {
+        b"create" => make::create(rt, path, count),
+        b"run-locked" => serve::run(rt, path),
+        b"last" => list::last(rt, path),
+        b"list" => list::list(rt, path),
+        _ => return tell::wrong(rt),
+    };
+    if let Err(why) = done {
+        tell::why(rt, path, why);
     }
-    if is_word(verb, b"run-locked") {
-        serve::run(rt, path);
-        return;
-    }
-    if is_word(verb, b"last") {
-        list::last(rt, path);
-        return;
-    }
-    if is_word(verb, b"list") {
-        list::list(rt, path);
-        return;
-    }
-    tell::wrong(rt);
 }
 
 // A path is text: one of other bytes is a wrong argument.

@@ -1,15 +1,16 @@
 // A kiosk on its file: lines in, answers out.
-use crate::files::load;
+use crate::files::{Loaded, load, past_streams};
 use crate::tell;
-use disk::{Opened, Outcome};
+use crate::tell::Unusable;
+use disk::Lost;
 use kiosk::Kiosk;
 use lines::input_of;
 use refusals::Answer;
 use rules::State;
-use serving::Begun;
+use serving::Start;
 use std::fs::{File, OpenOptions};
+use std::io;
 use std::io::Read;
-use std::os::fd::AsRawFd;
 use std::rt::Runtime;
 
 // The longest line that is read, its newline aside.
@@ -18,224 +19,140 @@ const LINE: usize = 127;
 // No run reads so many lines, and no line so many bytes.
 const MOST: u64 = 1000000000000;
 
-// The next line of standard input: its length, whether it fits and has its end, and whether the input ended.
+// The next line of standard input.
 #[derive(Clone, Copy)]
-pub struct Line {
-    size: usize,
-    is_whole: bool,
-    is_end: bool,
+enum Line<'a> {
+    // as it is, its newline aside
+    Whole(&'a [u8]),
+    // longer than the room for it
+    Long,
+    // one that the input ends in
+    Cut,
+    // none: the input has ended
+    End,
 }
 
-// The kiosk after a line, and whether another is read.
-#[derive(Clone, Copy)]
-pub struct Turn {
+fn next_byte(input: &mut impl Read) -> Option<u8> {
+    let mut byte = [0u8; 1];
+    match input.read(&mut byte) {
+        Ok(1) => Some(byte[0]),
+        _ => None,
+    }
+}
+
+// A line longer than the room is read to its end and is no line; nor is one without its newline, which std's `lines` would give as whole.
+fn read_line<'a>(input: &mut impl Read, room: &'a mut [u8]) -> Line<'a> {
+    let mut n = 0;
+    for _ in 0..MOST {
+        match next_byte(input) {
+            Some(b'\n') if n < room.len() => return Line::Whole(&room[..n]),
+            Some(b'\n') => return Line::Long,
+            Some(c) => {
+                if n < room.len() {
+                    room[n] = c;
+                    n += 1;
+                }
+            }
+            None if n == 0 => return Line::End,
+            None => return Line::Cut,
+        }
+    }
+    Line::Cut
+}
+
+// A run ends: nothing more can be said, or nothing is known of its file.
+#[derive(Drop)]
+struct Ended;
+
+impl From<io::Error> for Ended {
+    fn from(_: io::Error) -> Ended {
+        Ended
+    }
+}
+
+// A kiosk that serves.
+#[derive(Drop)]
+struct Session<'a, R> {
+    rt: &'a R,
+    path: &'a str,
+    file: File,
+    // What the system said last of a record that was dropped.
+    why: Option<io::Error>,
     kiosk: Kiosk,
-    goes_on: bool,
+    table: [u64; State::TABLE],
+    journal: [u8; Kiosk::ROOMY],
 }
 
-fn turned(kiosk: Kiosk, goes_on: bool) -> Turn {
-    Turn { kiosk, goes_on }
-}
-
-// The next byte of the input; 256 at its end.
-fn next_byte(input: &mut impl Read) -> u16 {
-    let mut b = [0u8; 1];
-    match input.read(&mut b) {
-        Ok(1) => wide(b[0]),
-        Ok(_) => 256,
-        Err(_) => 256,
-    }
-}
-
-fn wide(c: u8) -> u16 {
-    c as u16
-}
-
-fn low(c: u16) -> u8 {
-    (c % 256) as u8
-}
-
-fn put_at(line: &mut [u8], n: usize, c: u8) -> usize {
-    if line.len() <= n {
-        return n;
-    }
-    line[n] = c;
-    n + 1
-}
-
-// A line longer than the room is read to its end and is no line.
-fn read_line(input: &mut impl Read, line: &mut [u8]) -> Line {
-    let mut n: usize = 0;
-    let mut left: u64 = MOST;
-    while 0 < left {
-        let c = next_byte(input);
-        if c == 256 {
-            return Line {
-                size: n,
-                is_whole: false,
-                is_end: true,
-            };
+impl<R: Runtime<File = File>> Session<'_, R> {
+    // One whole line, the n-th. Where its record could not be made durable, a line on standard error says why.
+    fn put(&mut self, n: u64, line: &[u8]) -> Result<(), Ended> {
+        let Some(i) = input_of(line, self.kiosk.state.roll.height) else {
+            return Ok(saying::bad_line(self.rt, n)?);
+        };
+        let turn = serving::put(
+            self.rt,
+            &mut self.file,
+            self.kiosk,
+            i,
+            &mut self.table,
+            &mut self.journal,
+        );
+        self.kiosk = turn.kiosk;
+        match turn.outcome {
+            Ok(()) => {}
+            Err(Lost::Dropped(why)) => {
+                self.why = why.or(self.why);
+                tell::why(self.rt, self.path, Unusable::Failed(self.why));
+            }
+            Err(Lost::Unknown) => {
+                tell::why(self.rt, self.path, Unusable::Unknown);
+                return Err(Ended);
+            }
         }
-        if c == 10 {
-            return Line {
-                size: n,
-                is_whole: n < line.len(),
-                is_end: false,
-            };
+        Ok(turn.said?)
+    }
+
+    fn serve(&mut self) -> Result<(), Ended> {
+        let mut input = self.rt.reader();
+        for n in 1..=MOST {
+            let mut room = [0u8; LINE + 1];
+            match read_line(&mut input, &mut room) {
+                Line::Whole(line) => self.put(n, line)?,
+                Line::Long => saying::bad_line(self.rt, n)?,
+                Line::Cut => return Ok(saying::bad_line(self.rt, n)?),
+                Line::End => return Ok(()),
+            }
         }
-        n = put_at(line, n, low(c));
-        left -= 1;
+        Ok(())
     }
-    Line {
-        size: n,
-        is_whole: false,
-        is_end: true,
-    }
-}
-
-// One whole line. Where its record could not be made durable, a line on standard error says why.
-fn put_line<R: Runtime<File = File>>(
-    rt: &R,
-    path: &str,
-    file: &mut Opened,
-    k: Kiosk,
-    n: u64,
-    line: &[u8],
-    table: &mut [u64; State::TABLE],
-    journal: &mut [u8; Kiosk::ROOMY],
-) -> Turn {
-    let state = k.state;
-    let p = input_of(line, state.roll.height);
-    if !p.is_good {
-        return turned(k, saying::bad_line(rt, n));
-    }
-    let i = p.input;
-    let t = serving::put(rt, file, k, i, table, journal);
-    let outcome = t.outcome;
-    let next = t.kiosk;
-    match outcome {
-        Outcome::Kept => turned(next, t.said),
-        Outcome::Dropped => {
-            tell::failed(rt, path, file.why);
-            turned(next, t.said)
-        }
-        Outcome::Unknown => {
-            tell::unknown(rt, path);
-            turned(next, false)
-        }
-    }
-}
-
-fn put_part<R: Runtime<File = File>>(
-    rt: &R,
-    path: &str,
-    file: &mut Opened,
-    k: Kiosk,
-    n: u64,
-    text: &[u8],
-    size: usize,
-    table: &mut [u64; State::TABLE],
-    journal: &mut [u8; Kiosk::ROOMY],
-) -> Turn {
-    if text.len() < size {
-        return turned(k, saying::bad_line(rt, n));
-    }
-    put_line(rt, path, file, k, n, &text[0..size], table, journal)
-}
-
-fn one_turn<R: Runtime<File = File>>(
-    rt: &R,
-    input: &mut impl Read,
-    path: &str,
-    file: &mut Opened,
-    k: Kiosk,
-    n: u64,
-    table: &mut [u64; State::TABLE],
-    journal: &mut [u8; Kiosk::ROOMY],
-) -> Turn {
-    let mut text = [0u8; LINE + 1];
-    let l = read_line(input, &mut text);
-    if l.is_whole {
-        return put_part(rt, path, file, k, n, &text, l.size, table, journal);
-    }
-    if l.is_end {
-        if l.size == 0 {
-            return turned(k, false);
-        }
-        saying::bad_line(rt, n);
-        return turned(k, false);
-    }
-    turned(k, saying::bad_line(rt, n))
-}
-
-fn serve<R: Runtime<File = File>>(
-    rt: &R,
-    path: &str,
-    file: &mut Opened,
-    first: Kiosk,
-    table: &mut [u64; State::TABLE],
-    journal: &mut [u8; Kiosk::ROOMY],
-) {
-    let mut input = rt.reader();
-    let mut k = first;
-    let mut n: u64 = 0;
-    while n < MOST {
-        n += 1;
-        let t = one_turn(rt, &mut input, path, file, k, n, table, journal);
-        if !t.goes_on {
-            return;
-        }
-        let next = t.kiosk;
-        k = next;
-    }
-}
-
-// A kiosk that has said what it says first is served. Where its file could not be cut, a line on standard error says why.
-fn begin<R: Runtime<File = File>>(
-    rt: &R,
-    path: &str,
-    file: &mut Opened,
-    b: Begun,
-    table: &mut [u64; State::TABLE],
-    journal: &mut [u8; Kiosk::ROOMY],
-) {
-    let k = b.kiosk;
-    if b.serves {
-        serve(rt, path, file, k, table, journal);
-        return;
-    }
-    if !b.cut {
-        tell::failed(rt, path, file.why);
-    }
-}
-
-fn run_on<R: Runtime<File = File>>(rt: &R, path: &str, file: &mut Opened) {
-    let mut journal = [0u8; Kiosk::ROOMY];
-    let mut table = [0u64; State::TABLE];
-    let l = load(file, &mut journal);
-    let size = l.size;
-    if l.is_long {
-        saying::refused(rt, Answer::Impossible);
-        return;
-    }
-    if l.is_whole {
-        let b = serving::wake(rt, file, &journal[..size], &mut table);
-        begin(rt, path, file, b, &mut table, &mut journal);
-        return;
-    }
-    tell::failed(rt, path, file.why);
 }
 
 // A run on a file that its caller has locked. A journal that got the number of a closed standard stream would take what is said.
-pub fn run<R: Runtime<File = File>>(rt: &R, path: &str) {
-    match OpenOptions::new().read(true).write(true).open(rt, path) {
-        Ok(file) => {
-            if file.as_raw_fd() < 3 {
-                tell::closed(rt, path);
-                return;
-            }
-            run_on(rt, path, &mut Opened::new(file));
+pub fn run<R: Runtime<File = File>>(rt: &R, path: &str) -> Result<(), Unusable> {
+    let mut file = past_streams(OpenOptions::new().read(true).write(true).open(rt, path)?)?;
+    let mut journal = [0u8; Kiosk::ROOMY];
+    let Loaded { size, is_longer } = load(&mut file, &mut journal)?;
+    if is_longer {
+        let _ = saying::refused(rt, Answer::Impossible);
+        return Ok(());
+    }
+    let mut table = [0u64; State::TABLE];
+    let begun = serving::wake(rt, &mut file, &journal[..size], &mut table);
+    match begun.start {
+        Start::Serves => {
+            let mut session = Session {
+                rt,
+                path,
+                file,
+                why: None,
+                kiosk: begun.kiosk,
+                table,
+                journal,
+            };
+            let _ = session.serve();
+            Ok(())
         }
-        Err(e) => tell::failed(rt, path, Some(e)),
+        Start::Ends => Ok(()),
+        Start::Uncut(e) => Err(Unusable::from(e)),
     }
 }

@@ -1,66 +1,64 @@
 // What is told on standard error.
 use std::io;
 
-fn line(rt: &impl Eprint, path: &str, what: &str) {
-    let _ = rt.eprint(format_args!("{path}{what}"));
+// Why a file is not used, or no more.
+#[derive(Clone, Copy)]
+pub enum Unusable {
+    // It got the number of a standard stream that is closed.
+    Closed,
+    Longer,
+    Whole,
+    Other,
+    // Nothing is known of it.
+    Unknown,
+    // A call on it failed; with what the system said, where it said something.
+    Failed(Option<io::Error>),
+}
+
+impl From<io::Error> for Unusable {
+    fn from(e: io::Error) -> Unusable {
+        Unusable::Failed(Some(e))
+    }
 }
 
 pub fn wrong(rt: &impl Eprint) {
     let _ = rt.eprint("wrong arguments: see bin/node --help\n");
 }
 
-pub fn closed(rt: &impl Eprint, path: &str) {
-    line(
-        rt,
-        path,
-        ": standard input, output and error must be open\n",
-    );
-}
-
-pub fn longer(rt: &impl Eprint, path: &str) {
-    line(
-        rt,
-        path,
-        ": not touched: it is longer than an unfinished header, or cannot be read\n",
-    );
-}
-
-pub fn whole(rt: &impl Eprint, path: &str) {
-    line(rt, path, ": not touched: its header is whole\n");
-}
-
-pub fn other(rt: &impl Eprint, path: &str) {
-    line(
-        rt,
-        path,
-        ": not touched: it is no first part of this header\n",
-    );
-}
-
-pub fn unknown(rt: &impl Eprint, path: &str) {
-    line(
-        rt,
-        path,
-        ": nothing is known of the file: stopped, and nothing is sent\n",
-    );
-}
-
 // What the system said, without its number.
 fn words_of(text: &str) -> &str {
-    match text.split_once(" (os error ") {
-        Some((words, _)) => words,
-        None => text,
+    text.split_once(" (os error ")
+        .map_or(text, |(words, _)| words)
+}
+
+fn line(rt: &impl Eprint, path: &str, words: &str) {
+    let _ = rt.eprint(format_args!("{path}: {words}\n"));
+}
+
+fn failed(rt: &(impl Eprint + Alloc), path: &str, e: io::Error) {
+    match format!(in rt.alloc(); "{e}") {
+        Ok(text) => line(rt, path, words_of(text.as_str())),
+        Err(_) => line(rt, path, "failed, and memory ran out"),
     }
 }
 
-// What failed, and what the system said of it.
-pub fn failed(rt: &(impl Eprint + Alloc), path: &str, why: Option<io::Error>) {
-    let Some(e) = why else {
-        return line(rt, path, ": failed\n");
-    };
-    let Ok(text) = format!(in rt.alloc(); "{e}") else {
-        return line(rt, path, ": failed, and memory ran out\n");
-    };
-    let said = words_of(text.as_str());
-    let _ = rt.eprint(format_args!("{path}: {said}\n"));
+// The words of each reason; no `Display`, since what the system said is cut before its number, in memory that may run out.
+pub fn why(rt: &(impl Eprint + Alloc), path: &str, reason: Unusable) {
+    match reason {
+        Unusable::Closed => line(rt, path, "standard input, output and error must be open"),
+        Unusable::Longer => line(
+            rt,
+            path,
+            "not touched: it is longer than an unfinished header, or cannot be read",
+        ),
+        Unusable::Whole => line(rt, path, "not touched: its header is whole"),
+        Unusable::Other => line(rt, path, "not touched: it is no first part of this header"),
+        Unusable::Unknown => line(
+            rt,
+            path,
+            "nothing is known of the file: stopped, and nothing is sent",
+        ),
+        Unusable::Failed(None) => line(rt, path, "failed"),
+        Unusable::Failed(Some(e)) => failed(rt, path, e),
+    }
 }

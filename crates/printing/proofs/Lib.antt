@@ -1,2 +1,3 @@
 -- Laws of what is written.
+pub mod Texts
 pub mod Filling

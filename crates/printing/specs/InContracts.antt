@@ -1,3 +1,4 @@
 -- What the contracts of inner code are written in; no promise speaks of it.
+pub mod Texts
 pub mod Pattern
 pub mod Lines

@@ -1,59 +1,60 @@
-// A line from its pattern: each byte of the pattern is written, or what it stands for.
-ghost use Rattle.std.specs.Prelude.{◌+◌, ◌≤◌, ◌≡◌, length, get_or};
-ghost use Rattle.words.specs.Bytes.{overwrite};
+// A line from its pattern: each byte of the pattern is written, or what it stands for. std's `write!` would do, were there a clause that says
+// when it succeeds: `Prints` promises the whole text wherever the area has room.
+ghost use Rattle.std.specs.Prelude.{◌≡◌, get_or, drop};
+ghost use Rattle.printing.specs.InContracts.Texts.{HasRoom, Adds};
 ghost use Rattle.printing.specs.InContracts.Pattern.{piece, taken, filled};
 
-use crate::kinds::{input_word, output_word};
-use crate::text::{number, put, valid_round};
+use crate::text::Text;
+use listing::kinds::{input_word, output_word};
 
-// The k-th number; 0 past the end.
-fn number_in(numbers: &[u64], k: usize) -> u64
-    ensures { result ≡ get_or numbers.now k 0 }
+// The first number; 0 where there is none.
+fn first(numbers: &[u64]) -> u64
+    ensures { result ≡ get_or numbers.now 0 0 }
 {
-    if k < numbers.len() {
-        return numbers[k];
-    }
-    0
-}
-
-// What one byte of a pattern stands for: `x` is the next number.
-fn write_piece(text: &mut [u8], at: usize, byte: u8, x: u64) -> usize
-    requires { at + length (piece byte x) ≤ length text.old }
-    ensures { (result ≡ at + length (piece byte x)) × (text.new ≡ overwrite text.old at (piece byte x)) }
-{
-    match byte {
-        b'%' => number(text, at, x),
-        b'#' => valid_round(text, at, x),
-        b'<' => input_word(text, at, x),
-        b'>' => output_word(text, at, x),
-        _ => put(text, at, byte),
+    match numbers {
+        [] => 0,
+        [number, ..] => *number,
     }
 }
 
-// How many numbers a byte of a pattern takes.
-fn taken_by(byte: u8) -> usize
-    ensures { result ≡ taken byte }
+// The numbers that are left after a byte of a pattern.
+#[tactic(auto, unfolding(crate::specs::InContracts::Pattern::taken))]
+fn left(byte: u8, numbers: &[u64]) -> &[u64]
+    ensures { result.now ≡ drop (taken byte) numbers.now }
 {
-    if (byte == b'%') | (byte == b'#') | (byte == b'<') | (byte == b'>') {
-        return 1;
+    let is_mark = matches!(byte, b'%' | b'#' | b'<' | b'>');
+    if is_mark & (0 < numbers.len()) {
+        &numbers[1..]
+    } else {
+        numbers
     }
-    0
 }
 
-// A pattern with its numbers, in order.
-pub fn fill(text: &mut [u8], at: usize, pattern: &[u8], numbers: &[u64]) -> usize
-    requires { at + length (filled pattern.now numbers.now) ≤ length text.old }
-    ensures { (result ≡ at + length (filled pattern.now numbers.now)) × (text.new ≡ overwrite text.old at (filled pattern.now numbers.now)) }
-{
-    let mut end = at;
-    let mut k: usize = 0;
-    let mut i: usize = 0;
-    while i < pattern.len() {
-        let byte = pattern[i];
-        let x = number_in(numbers, k);
-        end = write_piece(text, end, byte, x);
-        k += taken_by(byte);
-        i += 1;
+impl Text<'_> {
+    // What one byte of a pattern stands for: `x` is the next number.
+    #[tactic(auto, unfolding(crate::specs::InContracts::Pattern::piece))]
+    fn piece(&mut self, byte: u8, x: u64)
+        requires { HasRoom (piece byte x) self.old }
+        ensures { Adds (piece byte x) self.old self.new }
+    {
+        match byte {
+            b'%' => self.number(x),
+            b'#' => self.valid_round(x),
+            b'<' => self.word(input_word(x)),
+            b'>' => self.word(output_word(x)),
+            _ => self.put(byte),
+        }
     }
-    end
+
+    // A pattern with its numbers, in order.
+    pub fn fill(&mut self, pattern: &[u8], numbers: &[u64])
+        requires { HasRoom (filled pattern.now numbers.now) self.old }
+        ensures { Adds (filled pattern.now numbers.now) self.old self.new }
+    {
+        let mut rest = numbers;
+        for byte in pattern {
+            self.piece(*byte, first(rest));
+            rest = left(*byte, rest);
+        }
+    }
 }

@@ -1,12 +1,12 @@
 -- Refusal 1, "state, table or used length impossible", but for the used length. 01, "Refusal 1 is given when". Assumes nothing.
-use Rattle.std.specs.Prelude.{ℕ, suc, ◌^◌, Bool, ◌&&◌, ◌||◌, not, length, ltb, leb, eqb, if◌then◌else◌}
+use Rattle.std.specs.Prelude.{ℕ, suc, ◌^◌, Bool, ◌&&◌, ◌||◌, not, length, ltb, leb, eqb, if◌then◌else◌, is_some}
 use Rattle.words.specs.Choice.{all_below, all_zero}
 use Rattle.roll.specs.Weighing.{roll_fits, own_fits}
 use Rattle.rules.specs.declared.Held.{Held}
 use Rattle.rules.specs.State.{is_fresh, settled_round, unheard, spoken}
 use Rattle.rules.specs.Log.{Desk, table_length, heard, proposed}
 use Rattle.rules.specs.Doing.{current}
-use Rattle.rules.specs.Rules.{first_rule, is_rule}
+use Rattle.rules.specs.Rules.{first_rule}
 
 -- "locked or valid round outside -1 to the current round, or -1 without name 0 or the reverse"
 abbrev pub held_fits : ℕ → Held → Bool
@@ -32,7 +32,7 @@ fresh_fits d =
 
 -- "or started, not settled and some rule already applies"
 unfoldable pub at_rest : Desk → Bool
-at_rest d = if is_fresh d.state.progress.phase then fresh_fits d else not (is_rule (first_rule d))
+at_rest d = if is_fresh d.state.progress.phase then fresh_fits d else not (is_some (first_rule d))
 
 -- the voting state and the table
 unfoldable pub desk_fits : Desk → Bool

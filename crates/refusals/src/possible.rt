@@ -1,24 +1,23 @@
 // Refusal 1: whether a voting state and a table are possible.
-ghost use Rattle.std.specs.Prelude.{◌^◌, ◌≤◌, ◌≡◌, ltb, length, get_or};
+ghost use Rattle.std.specs.Prelude.{◌^◌, ◌<◌, ◌≤◌, ◌≡◌, ltb, length, fold, bit_or};
 ghost use Rattle.words.specs.Choice.{all_below, all_zero};
-ghost use Rattle.roll.specs.declared.Roll as rolls;
 ghost use Rattle.roll.specs.Weighing.{most_kiosks, total_of};
-ghost use Rattle.rules.specs.State.{most_rounds, state_of, unheard};
-ghost use Rattle.rules.specs.Log.{desk, told, table_length, proposal_place};
-ghost use Rattle.refusals.specs.Possible.{held_fits, fresh_fits, desk_fits};
-ghost use Rattle.refusals.specs.InContracts.Parts.{marks_fit, proposed_fits};
+ghost use Rattle.rules.specs.State.{most_rounds, unheard};
+ghost use Rattle.rules.specs.Log.{heard, table_length};
+ghost use Rattle.rules.specs.InContracts.Lent.{shown, Weighs};
+ghost use Rattle.refusals.specs.Possible.{round_fits, held_fits, fresh_fits, at_rest, desk_fits};
+ghost use Rattle.refusals.specs.InContracts.Parts.{numbers_fit};
 
 use applies::when::first_rule;
-use roll::{Power, Roll, Round};
-use rules::enums::{is_fresh, is_rule, settled_round};
-use rules::places::{heard_in, proposed};
-use rules::{Held, Log, Progress, State};
+use roll::Round;
+use rules::desk::Desk;
+use rules::{Held, State};
 
 // Whether a sheet is held from a round up to the current one, with a name; or none is.
-fn held_fits(r: Round, h: Held) -> bool
-    ensures { result ≡ held_fits r.0 h }
+fn held_fits(now: Round, h: Held) -> bool
+    ensures { result ≡ held_fits now.0 h }
 {
-    ((h.next.0 as u16) <= (r.0 as u16) + 1) & ((h.next.0 == 0) == (h.name == 0))
+    u16::from(h.next.0) <= u16::from(now.0) + 1 && (h.next.0 == 0) == (h.name == 0)
 }
 
 // Whether each seat marked is on a roll of so many kiosks.
@@ -26,113 +25,106 @@ fn on_roll(kiosks: usize, marks: u32) -> bool
     requires { kiosks ≤ most_kiosks }
     ensures { result ≡ ltb marks (2 ^ kiosks) }
 {
-    let seats = 1u64 << kiosks;
-    (marks as u64) < seats
+    u64::from(marks) < 1 << kiosks
 }
 
-// Whether every mark is of a seat on the roll. The marks are joined and their joint is asked at the end.
-fn marks_fit(kiosks: usize, log: &Log) -> bool
-    requires { kiosks ≤ most_kiosks }
-    ensures { result ≡ all_below most_rounds (λ r. marks_fit kiosks (told log.now r)) }
+// Whether what is heard of a round may be: votes of seats on the roll, a proposal with a name and a valid round before its own.
+#[tactic(auto, using(crate::proofs::Judging::joint_below), unfolding(crate::specs::Possible::round_fits))]
+fn round_fits(d: &Desk, r: Round) -> bool
+    requires { (d.now.roll.now.kiosks ≤ most_kiosks) × (length d.now.table.now ≡ table_length) × (r.0 < most_rounds) }
+    ensures { result ≡ round_fits (shown d.now) r.0 }
 {
-    let mut marks: u32 = 0;
-    let mut r: usize = 0;
-    while r < State::ROUNDS {
-        let h = heard_in(log, r);
-        marks = marks | (h.prevotes | h.precommits);
-        r += 1;
-    }
-    on_roll(kiosks, marks)
+    let h = d.heard(r);
+    on_roll(d.roll.kiosks, h.prevotes | h.precommits)
+        && (!h.is_spoken() || (d.proposed(r) != 0 && h.valid <= u32::from(r.0)))
 }
 
-// Whether every proposal heard may be heard of its round. A round without one is passed at once.
-fn proposals_fit(log: &Log, table: &[u64]) -> bool
-    requires { length table.now ≡ table_length }
-    ensures { result ≡ all_below most_rounds (λ r. proposed_fits r (get_or table.now (proposal_place r) 0) (told log.now r)) }
+fn rounds_fit(d: &Desk) -> bool
+    requires { (d.now.roll.now.kiosks ≤ most_kiosks) × (length d.now.table.now ≡ table_length) }
+    ensures { result ≡ all_below most_rounds (λ r. round_fits (shown d.now) r) }
 {
-    let mut fit = true;
-    let mut r: usize = 0;
-    while r < State::ROUNDS {
-        let h = heard_in(log, r);
-        if h.proposal == 0 {
-            r += 1;
-            continue;
+    for r in 0..State::ROUNDS {
+        if !round_fits(d, Round(r as u8)) {
+            return false;
         }
-        let name = proposed(table, Round(r as u8));
-        fit = fit & (!(name == 0) & (h.valid <= (r as u32)));
-        r += 1;
     }
-    fit
+    true
 }
 
-// A valid round says nothing of a round without a proposal, so none is asked.
-fn all_unheard(log: &Log) -> bool
-    ensures { result ≡ all_below most_rounds (λ r. unheard (told log.now r)) }
+fn all_unheard(d: &Desk) -> bool
+    ensures { result ≡ all_below most_rounds (λ r. unheard (heard (shown d.now) r)) }
 {
-    let mut all = true;
-    let mut r: usize = 0;
-    while r < State::ROUNDS {
-        let h = heard_in(log, r);
-        all = all & ((h.proposal == 0) & (h.prevotes == 0) & (h.precommits == 0));
-        r += 1;
+    for r in 0..State::ROUNDS {
+        if !d.heard(Round(r as u8)).is_unheard() {
+            return false;
+        }
     }
-    all
+    true
 }
 
-// The numbers are joined and their joint is asked at the end: without an early return, many are read at once.
+// The numbers of a table, joined: without an early return, many are read at once.
+fn joined(table: &[u64]) -> u64
+    ensures { result ≡ fold bit_or 0 table.now }
+{
+    table.iter().fold(0, |any, name| any | *name)
+}
+
+#[tactic(auto, using(crate::proofs::Judging::joint_zero))]
 fn all_zero(table: &[u64]) -> bool
     ensures { result ≡ all_zero table.now }
 {
-    let mut any: u64 = 0;
-    let mut i: usize = 0;
-    while i < table.len() {
-        any = any | table[i];
-        i += 1;
-    }
-    any == 0
+    joined(table) == 0
 }
 
 // Before start nothing is heard or held.
-fn fresh_fits(progress: Progress, log: &Log, table: &[u64]) -> bool
-    ensures { (roll : rolls.Roll) → result ≡ fresh_fits (desk (state_of roll progress log.now) table.now) }
+#[tactic(auto, unfolding(crate::specs::Possible::fresh_fits))]
+fn fresh_fits(d: &Desk) -> bool
+    ensures { result ≡ fresh_fits (shown d.now) }
 {
-    all_unheard(log)
-        & all_zero(table)
-        & (progress.stand.round.0 == 0)
-        & (progress.locked.next.0 == 0)
-        & (progress.valid.next.0 == 0)
+    all_unheard(d)
+        && all_zero(d.table)
+        && d.progress.stand.round == Round(0)
+        && d.progress.locked.next.0 == 0
+        && d.progress.valid.next.0 == 0
 }
 
-// The voting state and the table: once started, no rule may apply.
-pub fn desk_fits(progress: Progress, roll: Roll, total: Power, log: &Log, table: &[u64]) -> bool
-    requires { roll.kiosks ≤ most_kiosks → total.0 ≡ total_of roll }
-    ensures { result ≡ desk_fits (desk (state_of roll progress log.now) table.now) }
+// Once started, no rule may apply.
+#[tactic(auto, unfolding(crate::specs::Possible::at_rest))]
+fn at_rest(d: &Desk) -> bool
+    requires { Weighs d.now }
+    ensures { result ≡ at_rest (shown d.now) }
 {
-    let phase = progress.phase;
-    let r = progress.stand.round;
-    if !roll.fits_with(total) {
+    if d.progress.phase.is_fresh() {
+        fresh_fits(d)
+    } else {
+        first_rule(d).is_none()
+    }
+}
+
+// The numbers that the other tests rely on.
+fn numbers_fit(d: &Desk) -> bool
+    requires { d.now.roll.now.kiosks ≤ most_kiosks → d.now.total.0 ≡ total_of d.now.roll.now }
+    ensures { result ≡ numbers_fit (shown d.now) }
+{
+    d.roll.fits_with(d.total)
+        && d.roll.own_fits()
+        && d.table.len() == State::TABLE
+        && usize::from(d.progress.stand.round.0) < State::ROUNDS
+        && usize::from(d.progress.phase.settled_round()) < State::ROUNDS
+}
+
+// The voting state and the table.
+#[tactic(auto, unfolding(crate::specs::Possible::desk_fits))]
+pub fn desk_fits(d: &Desk) -> bool
+    requires { d.now.roll.now.kiosks ≤ most_kiosks → d.now.total.0 ≡ total_of d.now.roll.now }
+    ensures { result ≡ desk_fits (shown d.now) }
+{
+    if !numbers_fit(d) {
         return false;
     }
-    if !roll.own_fits() {
-        return false;
-    }
-    if table.len() != State::TABLE {
-        return false;
-    }
-    if State::ROUNDS <= (r.0 as usize) {
-        return false;
-    }
-    if State::ROUNDS <= (settled_round(phase) as usize) {
-        return false;
-    }
-    if !(marks_fit(roll.kiosks, log) & proposals_fit(log, table)) {
-        return false;
-    }
-    if !(held_fits(r, progress.locked) & held_fits(r, progress.valid)) {
-        return false;
-    }
-    if is_fresh(phase) {
-        return fresh_fits(progress, log, table);
-    }
-    !is_rule(first_rule(progress, roll, log, table, total))
+    let round = d.progress.stand.round;
+    rounds_fit(d)
+        && held_fits(round, d.progress.locked)
+        && held_fits(round, d.progress.valid)
+        && at_rest(d)
 }

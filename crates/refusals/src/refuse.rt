@@ -1,194 +1,180 @@
 // The refusals 2 to 11: those that look at the voting state, the table and the input.
-ghost use Rattle.std.specs.Prelude.{ℕ, ◌<◌, ◌≡◌, List, length};
+ghost use Rattle.std.specs.Prelude.{◌<◌, ◌≡◌};
 ghost use Rattle.roll.specs.Weighing.{most_kiosks};
-ghost use Rattle.rules.specs.declared.State as states;
-ghost use Rattle.rules.specs.State.{most_rounds, state_of};
-ghost use Rattle.rules.specs.Log.{desk, told, table_length};
-ghost use Rattle.rules.specs.InContracts.Ready.{Ready};
-ghost use Rattle.refusals.specs.Refusals.{is_start, is_proposal, is_vote, is_timer, proposal_fits, vote_fits, timer_fits, start_fits, kind_fits, fields_fit, place_heard, same_heard, timer_due, refused_from_6, refused_input};
-ghost use Rattle.refusals.specs.InContracts.Parts.{votes_of};
+ghost use Rattle.rules.specs.State.{most_rounds};
+ghost use Rattle.rules.specs.Kinds.{proposal_in, vote_in, timer_in, in_number};
+ghost use Rattle.rules.specs.InContracts.Lent.{shown, Able};
+ghost use Rattle.refusals.specs.Refusals.{proposal_fits, vote_fits, timer_fits, start_fits, kind_fits, fields_fit, timer_due, refused_from_6, refused_input};
+ghost use Rattle.refusals.specs.InContracts.Parts.{heard_already};
 
 use crate::Answer;
-use roll::Roll;
-use rules::enums::{is_fresh, is_prevote, is_propose, is_settled};
-use rules::places::{heard, marks_of, proposed, votes_place};
-use rules::{Heard, Input, Log, Progress, Stand, State, Votes};
+use rules::desk::Desk;
+use rules::{Input, InputKind, State, Step, Votes};
 use words::marks::is_marked;
 
-fn is_start(i: Input) -> bool
-    ensures { result ≡ is_start i }
-{
-    i.kind == Input::START
-}
-
-fn is_proposal(i: Input) -> bool
-    ensures { result ≡ is_proposal i }
-{
-    i.kind == Input::PROPOSAL
-}
-
-fn is_vote(i: Input) -> bool
-    ensures { result ≡ is_vote i }
-{
-    (i.kind == Input::PREVOTE) | (i.kind == Input::PRECOMMIT)
-}
-
-fn is_timer(i: Input) -> bool
-    ensures { result ≡ is_timer i }
-{
-    (Input::TIMER_PROPOSE <= i.kind) & (i.kind <= Input::TIMER_PRECOMMIT)
-}
-
 // The fields of each kind.
+
+#[tactic(auto, unfolding(crate::specs::Refusals::proposal_fits))]
 fn proposal_fits(i: Input) -> bool
     ensures { result ≡ proposal_fits i }
 {
-    !(i.name == 0) & (i.valid.0 <= i.round.0) & (i.verdict <= 1)
+    i.name != 0 && i.valid.0 <= i.round.0 && i.verdict <= 1
 }
 
+#[tactic(auto, unfolding(crate::specs::Refusals::vote_fits))]
 fn vote_fits(i: Input) -> bool
     ensures { result ≡ vote_fits i }
 {
-    (i.valid.0 == 0) & (i.verdict == 0)
+    i.valid.0 == 0 && i.verdict == 0
 }
 
+#[tactic(auto, unfolding(crate::specs::Refusals::timer_fits))]
 fn timer_fits(i: Input) -> bool
     ensures { result ≡ timer_fits i }
 {
-    (i.sender == 0) & (i.name == 0) & (i.valid.0 == 0) & (i.verdict == 0)
+    i.sender == 0 && i.name == 0 && i.valid.0 == 0 && i.verdict == 0
 }
 
+#[tactic(auto, unfolding(crate::specs::Refusals::start_fits))]
 fn start_fits(i: Input) -> bool
     ensures { result ≡ start_fits i }
 {
-    timer_fits(i) & (i.round.0 == 0)
+    timer_fits(i) && i.round.0 == 0
 }
 
-fn kind_fits(i: Input) -> bool
+#[tactic(auto, unfolding(crate::specs::Refusals::kind_fits))]
+fn kind_fits(kind: InputKind, i: Input) -> bool
+    requires { in_number kind ≡ i.kind }
     ensures { result ≡ kind_fits i }
 {
-    if is_proposal(i) {
-        return proposal_fits(i);
+    match kind {
+        InputKind::Start => start_fits(i),
+        InputKind::Proposal => proposal_fits(i),
+        InputKind::Vote(_) => vote_fits(i),
+        InputKind::Timer(_) => timer_fits(i),
     }
-    if is_vote(i) {
-        return vote_fits(i);
-    }
-    if is_timer(i) {
-        return timer_fits(i);
-    }
-    start_fits(i)
 }
 
-fn fields_fit(n: usize, i: Input) -> bool
+#[tactic(auto, unfolding(crate::specs::Refusals::fields_fit))]
+fn fields_fit(n: usize, kind: InputKind, i: Input) -> bool
+    requires { in_number kind ≡ i.kind }
     ensures { result ≡ fields_fit n most_rounds i }
 {
-    (Input::START <= i.kind)
-        & (i.kind <= Input::TIMER_PRECOMMIT)
-        & ((i.sender as usize) < n)
-        & ((i.round.0 as usize) < State::ROUNDS)
-        & kind_fits(i)
+    usize::from(i.sender) < n && usize::from(i.round.0) < State::ROUNDS && kind_fits(kind, i)
 }
 
-// The type of a vote.
-fn votes_of(i: Input) -> Votes
-    ensures { result ≡ votes_of i }
+// The answer to a message whose place is heard, by whether that holds the same.
+fn heard_already(same: bool) -> Answer
+    ensures { result ≡ heard_already same }
 {
-    if i.kind == Input::PREVOTE {
-        Votes::Prevotes
+    if same {
+        Answer::HeardSame
     } else {
-        Votes::Precommits
+        Answer::HeardOther
     }
 }
 
-// Whether the message's place is heard, by what is heard of its round.
-fn place_heard(h: Heard, i: Input) -> bool
-    requires { i.sender < most_kiosks }
-    ensures { (s : states.State) (t : List ℕ) → h ≡ told s.log i.round.0 → result ≡ place_heard (desk s t) i }
+// Refusals 6 to 9 of a proposal.
+#[tactic(auto, unfolding(crate::specs::Refusals::refused_from_6, crate::specs::Refusals::place_heard, crate::specs::Refusals::same_heard))]
+fn refused_proposal(d: &Desk, i: Input) -> Answer
+    requires { Able d.now × (i.round.0 < most_rounds) × (i.sender < most_kiosks) × (i.kind ≡ proposal_in) }
+    ensures { result ≡ refused_from_6 (shown d.now) i }
 {
-    if is_proposal(i) {
-        return h.proposal != 0;
+    let seat = usize::from(i.sender);
+    if seat == d.roll.own {
+        return Answer::OwnNumber;
     }
-    if !is_vote(i) {
-        return false;
+    if seat != d.roll.proposer(i.round) {
+        return Answer::NotProposer;
     }
-    is_marked(marks_of(votes_of(i), h), i.sender as usize)
+    let h = d.heard(i.round);
+    if h.is_spoken() {
+        return heard_already(d.proposed(i.round) == i.name && h.valid == u32::from(i.valid.0));
+    }
+    Answer::Accepted
 }
 
-// Whether what its place holds is the same.
-fn same_heard(h: Heard, table: &[u64], i: Input) -> bool
-    requires { (i.round.0 < most_rounds) × (i.sender < most_kiosks) × (length table.now ≡ table_length) }
-    ensures { (s : states.State) → h ≡ told s.log i.round.0 → result ≡ same_heard (desk s table.now) i }
+// Refusals 6, 8 and 9 of a vote.
+#[tactic(auto, unfolding(crate::specs::Refusals::refused_from_6, crate::specs::Refusals::place_heard, crate::specs::Refusals::same_heard))]
+fn refused_vote(d: &Desk, v: Votes, i: Input) -> Answer
+    requires { Able d.now × (i.round.0 < most_rounds) × (i.sender < most_kiosks) × (i.kind ≡ vote_in v) }
+    ensures { result ≡ refused_from_6 (shown d.now) i }
 {
-    let r = i.round;
-    if is_proposal(i) {
-        return (proposed(table, r) == i.name) & (h.valid == (i.valid.0 as u32));
+    let seat = usize::from(i.sender);
+    if seat == d.roll.own {
+        return Answer::OwnNumber;
     }
-    let at = votes_place(votes_of(i), r) + (i.sender as usize);
-    table[at] == i.name
+    if is_marked(d.heard(i.round).marks(v), seat) {
+        return heard_already(d.voted(v, i.round)[seat] == i.name);
+    }
+    Answer::Accepted
 }
 
 // Whether a timer is of the current round and step, and was asked for in this round.
-fn timer_due(stand: Stand, i: Input) -> bool
-    ensures { (s : states.State) (t : List ℕ) → stand ≡ s.progress.stand → result ≡ timer_due (desk s t) i }
+#[tactic(auto, unfolding(crate::specs::Refusals::timer_due))]
+fn timer_due(d: &Desk, step: Step, i: Input) -> bool
+    requires { i.kind ≡ timer_in step }
+    ensures { result ≡ timer_due (shown d.now) i }
 {
-    let step = stand.step;
-    if i.round.0 != stand.round.0 {
-        return false;
-    }
-    if i.kind == Input::TIMER_PROPOSE {
-        return is_propose(step) & stand.asked.propose;
-    }
-    if i.kind == Input::TIMER_PREVOTE {
-        return is_prevote(step) & stand.asked.prevote;
-    }
-    stand.asked.precommit
+    let stand = &d.progress.stand;
+    i.round == stand.round
+        && match step {
+            Step::Propose => stand.step == Step::Propose && stand.asked.propose,
+            Step::Prevote => stand.step == Step::Prevote && stand.asked.prevote,
+            Step::Precommit => stand.asked.precommit,
+        }
 }
 
-// Refusals 6 to 11, of an input whose fields are within the rules.
-fn refused_from_6(progress: Progress, roll: Roll, log: &Log, table: &[u64], i: Input) -> Answer
-    requires { Ready (state_of roll progress log.now) table.now × (i.round.0 < most_rounds) × (i.sender < most_kiosks) }
-    ensures { result ≡ refused_from_6 (desk (state_of roll progress log.now) table.now) i }
+// Refusals 10 and 11 of a timer.
+#[tactic(auto, unfolding(crate::specs::Refusals::refused_from_6, crate::specs::Refusals::place_heard, crate::specs::Refusals::same_heard))]
+fn refused_timer(d: &Desk, step: Step, i: Input) -> Answer
+    requires { (i.round.0 < most_rounds) × (i.kind ≡ timer_in step) }
+    ensures { result ≡ refused_from_6 (shown d.now) i }
 {
-    let seat = i.sender as usize;
-    if (is_proposal(i) | is_vote(i)) & (seat == roll.own) {
-        return Answer::OwnNumber;
-    }
-    if is_proposal(i) & !(seat == roll.proposer(i.round)) {
-        return Answer::NotProposer;
-    }
-    let h = heard(log, i.round);
-    if place_heard(h, i) {
-        if same_heard(h, table, i) {
-            return Answer::HeardSame;
-        }
-        return Answer::HeardOther;
-    }
-    if is_timer(i) & !timer_due(progress.stand, i) {
+    if !timer_due(d, step, i) {
         return Answer::TimerNotDue;
     }
-    if (i.kind == Input::TIMER_PRECOMMIT) & ((i.round.0 as usize) + 1 == State::ROUNDS) {
+    if step == Step::Precommit && usize::from(i.round.0) + 1 == State::ROUNDS {
         return Answer::LastRound;
     }
     Answer::Accepted
 }
 
-// Refusals 2 to 11.
-pub fn refused_input(progress: Progress, roll: Roll, log: &Log, table: &[u64], i: Input) -> Answer
-    requires { Ready (state_of roll progress log.now) table.now }
-    ensures { result ≡ refused_input (desk (state_of roll progress log.now) table.now) i }
+// Refusals 6 to 11, of an input whose fields are within the rules.
+#[tactic(auto, unfolding(crate::specs::Refusals::refused_from_6, crate::specs::Refusals::place_heard))]
+fn refused_from_6(d: &Desk, kind: InputKind, i: Input) -> Answer
+    requires { Able d.now × (i.round.0 < most_rounds) × (i.sender < most_kiosks) × (in_number kind ≡ i.kind) }
+    ensures { result ≡ refused_from_6 (shown d.now) i }
 {
-    let phase = progress.phase;
-    if is_settled(phase) {
+    match kind {
+        InputKind::Start => Answer::Accepted,
+        InputKind::Proposal => refused_proposal(d, i),
+        InputKind::Vote(v) => refused_vote(d, v, i),
+        InputKind::Timer(step) => refused_timer(d, step, i),
+    }
+}
+
+// Refusals 2 to 11.
+#[tactic(auto, using(crate::proofs::Judging::kind_unknown, crate::proofs::Judging::round_fit, crate::proofs::Judging::sender_fit), unfolding(crate::specs::Refusals::refused_input))]
+pub fn refused_input(d: &Desk, i: Input) -> Answer
+    requires { Able d.now }
+    ensures { result ≡ refused_input (shown d.now) i }
+{
+    let phase = d.progress.phase;
+    if phase.is_settled() {
         return Answer::AlreadySettled;
     }
-    if is_fresh(phase) == is_start(i) {
-        if i.height.0 != roll.height.0 {
-            return Answer::OtherHeight;
-        }
-        if !fields_fit(roll.kiosks, i) {
-            return Answer::BadField;
-        }
-        return refused_from_6(progress, roll, log, table, i);
+    if phase.is_fresh() != (i.kind == Input::START) {
+        return Answer::OutOfOrder;
     }
-    Answer::OutOfOrder
+    if i.height != d.roll.height {
+        return Answer::OtherHeight;
+    }
+    let Ok(kind) = InputKind::try_from(i.kind) else {
+        return Answer::BadField;
+    };
+    if !fields_fit(d.roll.kiosks, kind, i) {
+        return Answer::BadField;
+    }
+    refused_from_6(d, kind, i)
 }

@@ -8,24 +8,15 @@ use native.Mathlib.Numerals.{add-one}
 use native.Mathlib.Omega.{arith}
 use borrow.Author.Tests.{eqb-true, eq-eqb, ne_eqb, ltb-false, le-ltb, le-leb, lt-leb, leb-true}
 use lib.Dec.{eqb, leb}
-use lib.ListN.{get_or, drop, replicate}
+use lib.ListN.{length, get_or, take, drop, replicate}
+use Rattle.std.specs.List.{list_all}
+use Rattle.std.proofs.lemmas.List.Folds.{list_all_more}
 use Rattle.words.specs.Choice.{all_below}
 use Rattle.words.specs.Marks.{marked, mark}
 use Rattle.words.proofs.Choice.{and_left, and_right}
 use Rattle.words.proofs.MarkLaws.{mark_seats}
 use Rattle.roll.specs.declared.Roll.{Roll}
-use Rattle.roll.specs.Weighing.{large, power_below, names, most_kiosks, most_power, most_total, total_of, roll_fits}
-
--- one seat more: b says whether it counts, and x is what it adds
-pub power_more : (ps : List ℕ) (f : ℕ → Bool) (k : ℕ) {s x : ℕ} {b : Bool} → s ≡ power_below ps f k → b ≡ f k
-    → x ≡ (if b then get_or ps k 0 else 0) → s + x ≡ power_below ps f (k + 1)
-unfolding power_below
-power_more ps f k e g h = rw (add-one, e, h, g)
-
--- the seats are all passed
-pub power_all : (ps : List ℕ) (f : ℕ → Bool) (k n : ℕ) {s : ℕ} → s ≡ power_below ps f k → k ≤ n → n ≤ k
-    → s ≡ power_below ps f n
-power_all ps f k n e h l = let g : k ≡ n = omega arith in e ∙ ap (power_below ps f) g
+use Rattle.roll.specs.Weighing.{large, power_below, named, most_kiosks, most_power, most_total, total_of, roll_fits}
 
 -- two tests that agree on each seat below n weigh the same
 pub power_ext : (ps : List ℕ) (f g : ℕ → Bool) (n : ℕ) → ((i : ℕ) → i < n → f i ≡ g i) → power_below ps f n ≡ power_below ps g n
@@ -38,17 +29,6 @@ pub power_none : (ps : List ℕ) (f : ℕ → Bool) (n : ℕ) → ((i : ℕ) →
 unfolding power_below
 power_none ps f zero h = refl
 power_none ps f (suc n) h = rw (power_none ps f n (λ i l. h i (omega arith)), h n (omega arith))
-
-seat_most : (b : Bool) (p most : ℕ) → p ≤ most → (if b then p else 0) ≤ most
-seat_most true p most h = h
-seat_most false p most h = omega arith
-
--- n seats weigh at most n times the most that one may weigh (65535 as the code holds it, 1000 on a roll that fits)
-pub power_most : (ps : List ℕ) (f : ℕ → Bool) (most n : ℕ) → ((i : ℕ) → i < n → get_or ps i 0 ≤ most) → power_below ps f n ≤ most * n
-unfolding power_below
-power_most ps f most zero h = omega arith
-power_most ps f most (suc n) h =
-    omega (arith, power_most ps f most n (λ i l. h i (omega arith)), seat_most (f n) (get_or ps n 0) most (h n (omega arith)))
 
 seat_mono : (a b : Bool) (p : ℕ) → (a ≡ true → b ≡ true) → (if a then p else 0) ≤ (if b then p else 0)
 seat_mono false b p h = omega arith
@@ -71,13 +51,18 @@ large_not ps f g n total e fails =
     let less = power_mono ps (λ i. f i && g i) f n (λ i l. and_left (f i) (g i)) in
     le-ltb (2 * total) _ (omega (arith, e, few, less))
 
--- the same steps for a test of every seat
+-- a test of each of the first n numbers of a list
+pub all_first : (test : ℕ → Bool) (n : ℕ) (xs : List ℕ) → n ≤ length xs → list_all test (take n xs) ≡ all_below n (λ i. test (get_or xs i 0))
+unfolding all_below
+all_first test zero xs h = refl
+all_first test (suc n) xs h =
+    let l : n < length xs = omega arith in
+    rw (← add-one n) (list_all_more test xs n 0 l ∙ ap (λ (b : Bool). b && test (get_or xs n 0)) (all_first test n xs (omega arith)))
+
+-- a step of a test of every seat, and the end of it
 pub all_more : (f : ℕ → Bool) (k : ℕ) {b t : Bool} → b ≡ all_below k f → t ≡ f k → (b && t) ≡ all_below (k + 1) f
 unfolding all_below
 all_more f k e h = rw (add-one, e, h)
-
-pub all_passed : (f : ℕ → Bool) (k n : ℕ) {b : Bool} → b ≡ all_below k f → k ≤ n → n ≤ k → b ≡ all_below n f
-all_passed f k n e h l = let g : k ≡ n = omega arith in e ∙ ap (λ (i : ℕ). all_below i f) g
 
 -- ---- which seats are named
 
@@ -92,20 +77,20 @@ pass_other true f true c h = refl
 pass_other true f false c h = rw (h refl)
 
 -- seat i is passed: the marks m are its own, and those left after it
-module _ (table : List ℕ) (base name m left i : ℕ) (others : (j : ℕ) → marked m j ≡ (eqb i j || marked left j)) where
+module _ (cells : List ℕ) (name m left i : ℕ) (others : (j : ℕ) → marked m j ≡ (eqb i j || marked left j)) where
   -- its cell holds the name: it is one of those found
-  pub name_same : (found : ℕ) → get_or table (base + i) 0 ≡ name
-      → (j : ℕ) → (marked (mark found i) j || names left table base name j) ≡ (marked found j || names m table base name j)
-  name_same found same j =
+  pub named_same : (found : ℕ) → get_or cells i 0 ≡ name
+      → (j : ℕ) → (marked (mark found i) j || named left cells name j) ≡ (marked found j || named m cells name j)
+  named_same found same j =
       rw (mark_seats found i j, others j)
-      (pass_same (eqb i j) (marked found j) (marked left j) (eqb (get_or table (base + j) 0) name) (λ e. rw (← eqb-true i j e) (eq-eqb _ _ same)))
+      (pass_same (eqb i j) (marked found j) (marked left j) (eqb (get_or cells j 0) name) (λ e. rw (← eqb-true i j e) (eq-eqb _ _ same)))
 
   -- its cell holds another
-  pub name_other : (found : ℕ) → (get_or table (base + i) 0 ≡ name → ⊥)
-      → (j : ℕ) → (marked found j || names left table base name j) ≡ (marked found j || names m table base name j)
-  name_other found differs j =
+  pub named_other : (found : ℕ) → (get_or cells i 0 ≡ name → ⊥)
+      → (j : ℕ) → (marked found j || named left cells name j) ≡ (marked found j || named m cells name j)
+  named_other found differs j =
       rw (others j)
-      (pass_other (eqb i j) (marked found j) (marked left j) (eqb (get_or table (base + j) 0) name) (λ e. rw (← eqb-true i j e) (ne_eqb _ _ differs)))
+      (pass_other (eqb i j) (marked found j) (marked left j) (eqb (get_or cells j 0) name) (λ e. rw (← eqb-true i j e) (ne_eqb _ _ differs)))
 
 -- ---- what a roll may be
 
@@ -133,12 +118,3 @@ module _ (r : Roll) where
       let d = leb 1 (total_of r) in
       let ab = and_left (a && b) c (and_left (a && b && c) d (and_left (a && b && c && d) (leb (total_of r) most_total) e)) in
       (leb-true 1 r.kiosks (and_left a b ab), leb-true r.kiosks most_kiosks (and_right a b ab))
-
-abbrev zeros : ℕ → List ℕ
-zeros n = replicate n 0
-
--- what is left of some zeros
-pub drop_zeros : (n m : ℕ) → drop n (zeros m) ≡ zeros (m - n)
-drop_zeros zero m = let e : m ≡ m - 0 = omega arith in ap zeros e
-drop_zeros (suc n) zero = let e : 0 ≡ 0 - suc n = omega arith in ap zeros e
-drop_zeros (suc n) (suc m) = let e : m - n ≡ suc m - suc n = omega arith in drop_zeros n m ∙ ap zeros e

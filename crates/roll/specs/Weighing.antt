@@ -17,9 +17,9 @@ unfoldable pub power_below : List ℕ → (ℕ → Bool) → ℕ → ℕ
 power_below powers counts zero = zero
 power_below powers counts (suc i) = power_below powers counts i + (if counts i then get_or powers i 0 else 0)
 
--- seat i is marked, and its cell of the table, the first at `base`, holds the name
-abbrev pub names : ℕ → List ℕ → ℕ → ℕ → ℕ → Bool
-names marks table base name i = marked marks i && eqb (get_or table (base + i) 0) name
+-- seat i is marked, and its cell holds the name
+abbrev pub named : ℕ → List ℕ → ℕ → ℕ → Bool
+named marks cells name i = marked marks i && eqb (get_or cells i 0) name
 
 -- the power of the seats on the roll that the test counts
 abbrev pub power_of : Roll → (ℕ → Bool) → ℕ

@@ -9,7 +9,7 @@ use borrow.Author.Tests.{lt-ltb, ltb-true, leb-false}
 use Rattle.words.proofs.Choice.{and_false, highest_none, highest_above}
 use Rattle.rules.specs.Log.{Desk, heard, message_power}
 use Rattle.rules.specs.Doing.{current}
-use Rattle.rules.specs.Rules.{is_some, calls, past_calling_round, applies_55}
+use Rattle.rules.specs.Rules.{has_some, calls, past_calling_round, applies_55}
 
 -- the desk u is in round r; of the rounds above r it has heard what d has, and it has as many rounds and the same roll
 pub record Ahead (r : ℕ) (d u : Desk) : Type 0 where
@@ -20,7 +20,7 @@ pub record Ahead (r : ℕ) (d u : Desk) : Type 0 where
 
 -- no round above r has messages of some power
 abbrev pub Uncalled : ℕ → Desk → Type 0
-Uncalled r d = (q : ℕ) → r < q → q < d.rounds → is_some d (message_power d q) ≡ false
+Uncalled r d = (q : ℕ) → r < q → q < d.rounds → has_some d (message_power d q) ≡ false
 
 -- so above a round that is not before the current one, where no round above it calls
 pub uncalled : (r : ℕ) (d : Desk) → current d ≤ r → past_calling_round d ≤ suc r → Uncalled r d
@@ -39,7 +39,7 @@ pub uncalled_ahead : {r : ℕ} {d u : Desk} → Ahead r d u → Uncalled r d →
 unfolding applies_55 past_calling_round calls message_power
 uncalled_ahead {r} {d} {u} a s =
     let off : past_calling_round u ≡ 0 = highest_none u.rounds (λ q. calls u q) (λ q less.
-    and_false (ltb (current u) q) (is_some u (message_power u q)) (λ t.
+    and_false (ltb (current u) q) (has_some u (message_power u q)) (λ t.
     let more : r < q = rw a.round at (ltb-true (current u) q t) in
     rw (a.above q more, a.roll) (s q more (rw a.rounds at less)))) in
     rw off

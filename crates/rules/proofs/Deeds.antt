@@ -1,5 +1,6 @@
 -- What a kiosk does on its own, one deed at a time, with what the rules have found where it is done. Every firing is a deed, so what each
 -- deed keeps, the firings of a call keep. Assumes nothing.
+use Rattle.std.specs.Prelude.{is_some}
 use Prim.Native.Nat.{ℕ, zero, suc, pred, ◌≤◌, ◌<◌}
 use mathlib.Core.Path.{◌≡◌, refl}
 use mathlib.Core.Logic.{◌⊎◌, inl, inr, ⊎_elim}
@@ -17,8 +18,8 @@ use Rattle.rules.specs.declared.State.{State}
 use Rattle.rules.specs.State.{is_propose, is_prevote, spoken, good, held, with_stand, with_locked, with_valid, with_backed}
 use Rattle.rules.specs.Log.{Desk, with_state, heard, proposed, good_sheets, power, power_for, message_power}
 use Rattle.rules.specs.Doing.{current, step, vote, ask, start_round}
-use Rattle.rules.specs.Rules.{is_large, is_some, applies_22, applies_28, applies_34, applies_36, applies_44, applies_47, applies_49, applies_55}
-use Rattle.rules.specs.Rules.{backed_sheet, closing_sheet, closing_round, calls, past_calling_round, first_rule, is_rule, vote_22, vote_28, fire_36, fire_49, fire}
+use Rattle.rules.specs.Rules.{is_large, has_some, applies_22, applies_28, applies_34, applies_36, applies_44, applies_47, applies_49, applies_55}
+use Rattle.rules.specs.Rules.{backed_sheet, closing_sheet, closing_round, calls, past_calling_round, first_rule, vote_22, vote_28, fire_36, fire_49, fire, fire_found}
 use Rattle.rules.specs.Work.{fire_all}
 use Rattle.rules.proofs.ByRule.{Runs, by_rule}
 
@@ -201,12 +202,12 @@ module _ (offer : ℕ) (d : Desk) where
   does_55 e =
       let r = pred (past_calling_round d) in
       let h = highest_passes d.rounds (λ q. calls d q) (leb-true 1 (past_calling_round d) e) in
-      enters r (ltb-true (current d) r (and_left (ltb (current d) r) (is_some d (message_power d r)) h.0)) h.1 refl
+      enters r (ltb-true (current d) r (and_left (ltb (current d) r) (has_some d (message_power d r)) h.0)) h.1 refl
 
-  pub fires : is_rule (first_rule d) ≡ true → Runs d × Deed offer d (fire (first_rule d) offer d)
+  pub fires : is_some (first_rule d) ≡ true → Runs d × Deed offer d (fire_found (first_rule d) offer d)
   unfolding fire
   fires =
-      by_rule (λ rule. is_rule rule ≡ true → Runs d × Deed offer d (fire rule offer d)) d
+      by_rule (λ found. is_some found ≡ true → Runs d × Deed offer d (fire_found found offer d)) d
       (λ stopped t. absurd (false≢true t))
       (λ run idle n49 n55 t. absurd (false≢true t))
       (λ run e t. (run, does_22 e))
@@ -224,6 +225,6 @@ pub firing_keeps : (P : Desk → Type 0) (offer : ℕ) → ((d u : Desk) → Run
 unfolding fire_all
 firing_keeps P offer keeps zero d p = p
 firing_keeps P offer keeps (suc n) d p =
-    by_test P (is_rule (first_rule d))
-    (λ e. let f = fires offer d e in firing_keeps P offer keeps n (fire (first_rule d) offer d) (keeps d (fire (first_rule d) offer d) f.0 f.1 p))
+    by_test P (is_some (first_rule d))
+    (λ e. let f = fires offer d e in firing_keeps P offer keeps n (fire_found (first_rule d) offer d) (keeps d (fire_found (first_rule d) offer d) f.0 f.1 p))
     (λ e. p)

@@ -1,5 +1,6 @@
 -- What each rule does to a desk: one that stays in its round pays for its output with room, and a round entered has room for five.
 -- Assumes nothing.
+use Rattle.std.specs.Prelude.{is_some}
 use Prim.Native.Nat.{ℕ, suc, ◌+◌, ◌≤◌, ◌<◌, pred}
 use mathlib.Core.Path.{◌≡◌, refl, sym, ◌∙◌}
 use mathlib.Core.Bool.{true, ◌&&◌, not, false≢true}
@@ -16,7 +17,7 @@ use Rattle.rules.specs.State.{is_running, is_propose, is_prevote, held, entered,
 use Rattle.rules.specs.Log.{Desk, with_state, message, hear_proposal, hear_vote}
 use Rattle.rules.specs.Doing.{current, step, own, step_of, sheet_to_propose, propose, vote, ask, start_round}
 use Rattle.rules.specs.Rules.{applies_22, applies_28, applies_34, applies_36, applies_44, applies_47, vote_22, vote_28, fire_36, fire_49}
-use Rattle.rules.specs.Rules.{applies_55, calls, past_calling_round, backed_sheet, closing_sheet, closing_round, first_rule, is_rule, fire}
+use Rattle.rules.specs.Rules.{applies_55, calls, past_calling_round, backed_sheet, closing_sheet, closing_round, first_rule, fire, fire_found}
 use Rattle.rules.proofs.ByRule.{Runs, Idle, by_rule}
 use Rattle.rules.specs.InContracts.Room.{room, steps_left, unless, run_left}
 use Rattle.rules.proofs.Room.{propose_left, prevote_left, unless_not, running_left}
@@ -140,10 +141,10 @@ pub by_firing : (P : Desk → Type 0) (offer : ℕ) (d : Desk) →
     current d < pred (past_calling_round d) →
     pred (past_calling_round d) < d.rounds →
     (u : Desk) → Enters (pred (past_calling_round d)) d u → P u) →
-    is_rule (first_rule d) ≡ true → P (fire (first_rule d) offer d)
+    is_some (first_rule d) ≡ true → P (fire_found (first_rule d) offer d)
 unfolding fire applies_55 past_calling_round calls
 by_firing P offer d stays settles goes =
-    by_rule (λ rule. is_rule rule ≡ true → P (fire rule offer d)) d
+    by_rule (λ found. is_some found ≡ true → P (fire_found found offer d)) d
     (λ stopped t. absurd (false≢true t)) (λ run idle n49 n55 t. absurd (false≢true t))
     (λ run e t. stays run (λ idle. false≢true (sym idle.no_22 ∙ e)) _ (within_22 d e))
     (λ run e t. stays run (λ idle. false≢true (sym idle.no_28 ∙ e)) _ (within_28 d e))

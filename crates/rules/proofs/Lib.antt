@@ -16,3 +16,4 @@ pub mod Ends
 pub mod Behind
 pub mod Reach
 pub mod Six
+pub mod Powers

@@ -9,7 +9,7 @@ use Rattle.words.proofs.Places.{set_at}
 use Rattle.rules.specs.declared.Votes.{Votes}
 use Rattle.rules.specs.declared.Votes.TheVariants.{Prevotes, Precommits}
 use Rattle.rules.specs.declared.Heard.{Heard}
-use Rattle.rules.specs.State.{most_rounds, log_per_round, log_length, marks_at, proposal_at, valid_at, marks_of, with_marks}
+use Rattle.rules.specs.State.{log_per_round, marks_at, proposal_at, valid_at, marks_of, with_marks}
 use Rattle.rules.specs.Log.{told, tell}
 
 -- it has places for so many rounds
@@ -36,10 +36,6 @@ marks_proposal Precommits r q = (λ e. omega (arith, e), λ e. omega (arith, e))
 pub marks_within : (v : Votes) (n r : ℕ) (l : List ℕ) → Sized n l → r < n → marks_at v r < length l
 marks_within Prevotes n r l s less = omega (arith, s.size, less)
 marks_within Precommits n r l s less = omega (arith, s.size, less)
-
-pub marks_below : (v : Votes) (r : ℕ) → r < most_rounds → marks_at v r < log_length
-marks_below Prevotes r less = omega (arith, less)
-marks_below Precommits r less = omega (arith, less)
 
 -- a place set to what it held is as it was, whatever another was set to
 kept : (l : List ℕ) (a b x : ℕ) → (b ≡ a → ⊥) → set (set l a x) b (get_or l b 0) ≡ set l a x

@@ -1,13 +1,13 @@
 -- The eight rules of Algorithm 1, by 003's line numbers: when each applies, which is the first, and what it does. "2f+1 is read as
 -- large, f+1 as some." Assumes nothing.
-use Rattle.std.specs.Prelude.{ℕ, pred, Bool, true, false, ◌&&◌, ◌||◌, not, ltb, leb, eqb, if◌then◌else◌}
+use Rattle.std.specs.Prelude.{ℕ, pred, Bool, ◌&&◌, ◌||◌, not, ltb, leb, eqb, if◌then◌else◌, Option, Some, None}
 use Rattle.words.specs.Choice.{lowest_below, past_highest_below, first_of}
 use Rattle.roll.specs.Weighing.{large, some, total_of}
 use Rattle.rules.specs.declared.Phase.TheVariants.{Settled}
 use Rattle.rules.specs.declared.Step.TheVariants.{Prevote, Precommit}
 use Rattle.rules.specs.declared.Votes.TheVariants.{Prevotes, Precommits}
 use Rattle.rules.specs.declared.Rule.{Rule}
-use Rattle.rules.specs.declared.Rule.TheVariants.{Nothing, Line22, Line28, Line34, Line36, Line44, Line47, Line49, Line55}
+use Rattle.rules.specs.declared.Rule.TheVariants.{Line22, Line28, Line34, Line36, Line44, Line47, Line49, Line55}
 use Rattle.rules.specs.Kinds.{settled_out}
 use Rattle.rules.specs.State.{is_running, is_propose, is_prevote, spoken, good, held, with_phase, with_stand, with_locked, with_valid, with_backed}
 use Rattle.rules.specs.Log.{Desk, with_state, heard, proposed, good_sheets}
@@ -17,8 +17,8 @@ use Rattle.rules.specs.Doing.{current, step, output, send, ask, vote, start_roun
 abbrev pub is_large : Desk → ℕ → Bool
 is_large d power = large (total_of d.state.roll) power
 
-abbrev pub is_some : Desk → ℕ → Bool
-is_some d power = some (total_of d.state.roll) power
+abbrev pub has_some : Desk → ℕ → Bool
+has_some d power = some (total_of d.state.roll) power
 
 -- ## When each rule applies
 
@@ -72,7 +72,7 @@ applies_49 d = ltb (closing_round d) d.rounds
 
 -- line 55: round r is ahead, with messages of some power. "55 goes to the highest round with some power"
 unfoldable pub calls : Desk → ℕ → Bool
-calls d r = ltb (current d) r && is_some d (message_power d r)
+calls d r = ltb (current d) r && has_some d (message_power d r)
 
 unfoldable pub past_calling_round : Desk → ℕ
 past_calling_round d = past_highest_below d.rounds (λ r. calls d r)
@@ -82,39 +82,28 @@ applies_55 d = leb 1 (past_calling_round d)
 
 -- "the first rule that applies": "22, 28, 34, 36, 44, 47, 49, 55", from its end: the first from 49 on, from 47 on, from 34 on, and of
 -- all. None applies before start, and none once settled
-unfoldable pub from_49 : Desk → Rule
+unfoldable pub from_49 : Desk → Option Rule
 from_49 d =
-    if applies_49 d then Line49 (record { 0 = closing_round d }) (closing_sheet d (closing_round d))
-    else if applies_55 d then Line55 (record { 0 = pred (past_calling_round d) })
-    else Nothing
+    if applies_49 d then Some (Line49 (record { 0 = closing_round d }) (closing_sheet d (closing_round d)))
+    else if applies_55 d then Some (Line55 (record { 0 = pred (past_calling_round d) }))
+    else None
 
-unfoldable pub from_47 : Desk → Rule
-from_47 d = if applies_47 d then Line47 else from_49 d
+unfoldable pub from_47 : Desk → Option Rule
+from_47 d = if applies_47 d then Some Line47 else from_49 d
 
-unfoldable pub from_34 : Desk → Rule
+unfoldable pub from_34 : Desk → Option Rule
 from_34 d =
-    if applies_34 d then Line34
-    else if applies_36 d then Line36 (backed_sheet d)
-    else if applies_44 d then Line44
+    if applies_34 d then Some Line34
+    else if applies_36 d then Some (Line36 (backed_sheet d))
+    else if applies_44 d then Some Line44
     else from_47 d
 
-unfoldable pub first_rule : Desk → Rule
+unfoldable pub first_rule : Desk → Option Rule
 first_rule d =
-    if not (is_running d.state.progress.phase) then Nothing
-    else if applies_22 d then Line22
-    else if applies_28 d then Line28
+    if not (is_running d.state.progress.phase) then None
+    else if applies_22 d then Some Line22
+    else if applies_28 d then Some Line28
     else from_34 d
-
-abbrev pub is_rule : Rule → Bool
-is_rule Nothing = false
-is_rule Line22 = true
-is_rule Line28 = true
-is_rule Line34 = true
-is_rule (Line36 name) = true
-is_rule Line44 = true
-is_rule Line47 = true
-is_rule (Line49 r name) = true
-is_rule (Line55 r) = true
 
 -- ## What each rule does
 
@@ -144,7 +133,6 @@ unfoldable pub fire_49 : ℕ → ℕ → Desk → Desk
 fire_49 r name d = send (output settled_out r 0 name) (with_state (with_phase (Settled (record { 0 = r })) d.state) d)
 
 unfoldable pub fire : Rule → ℕ → Desk → Desk
-fire Nothing offer d = d
 fire Line22 offer d = vote Prevotes (vote_22 d) d
 fire Line28 offer d = vote Prevotes (vote_28 d) d
 fire Line34 offer d = ask Prevote d
@@ -153,6 +141,11 @@ fire Line44 offer d = vote Precommits 0 d
 fire Line47 offer d = ask Precommit d
 fire (Line49 r name) offer d = fire_49 r.0 name d
 fire (Line55 r) offer d = start_round offer r.0 d
+
+-- what the rule that was found does; nothing where none was
+abbrev pub fire_found : Option Rule → ℕ → Desk → Desk
+fire_found None offer d = d
+fire_found (Some rule) offer d = fire rule offer d
 
 -- To compute with this file: `unfolding the_rules` opens the above.
 unfoldable pub the_rules : Unit {0}

@@ -1,7 +1,9 @@
 // Algorithm 1 of 003: the voting state, and what goes in and out of it.
 #![tactic(auto)]
 
+pub mod desk;
 pub mod enums;
+pub mod kinds;
 pub mod outputs;
 pub mod places;
 
@@ -16,7 +18,7 @@ pub enum Phase {
     Settled(Round),
 }
 
-#[derive(Clone, Copy)]
+#[derive(Clone, Copy, PartialEq, Eq)]
 pub enum Step {
     Propose,
     Prevote,
@@ -24,7 +26,7 @@ pub enum Step {
 }
 
 // The two types of vote.
-#[derive(Clone, Copy)]
+#[derive(Clone, Copy, PartialEq, Eq)]
 pub enum Votes {
     Prevotes,
     Precommits,
@@ -47,7 +49,8 @@ pub struct Stand {
     pub backed: bool,
 }
 
-// A locked or a valid sheet: its round plus one and its name (0: none).
+// A locked or a valid sheet: its round plus one and its name (0: none). Not an Option: refusal 1 answers a round without a name and a
+// name without a round (`held_fits`).
 #[derive(Clone, Copy)]
 pub struct Held {
     pub next: PlusOne,
@@ -55,7 +58,8 @@ pub struct Held {
 }
 
 // What is heard of a round, names aside (the lent table has those): a mark for each seat whose prevote, and whose precommit, is
-// heard; the proposal (0: none is heard, 1: one with verdict 0, more: one with verdict 1) and its valid round plus one.
+// heard; the proposal (0: none is heard, 1: one with verdict 0, more: one with verdict 1) and its valid round plus one. Plain numbers, as
+// the log has them, any of which a made-up state may hold (`spoken`, `good`).
 #[derive(Clone, Copy)]
 pub struct Heard {
     pub prevotes: u32,
@@ -73,7 +77,7 @@ pub struct Progress {
     pub valid: Held,
 }
 
-// What is heard of every round: the numbers of `Heard` for each round, in order.
+// What is heard of every round: the numbers of `Heard` for each round, in order. An array of numbers, since it crosses to C as it is.
 pub type Log = [u32; State::LOG];
 
 // The voting state of a kiosk, in the parts that the steps of a call hand on: the log is lent to them.
@@ -85,7 +89,7 @@ pub struct State {
 }
 
 impl State {
-    // 01: rounds 0 to 15; 65 numbers of the table for each round. The log has 4.
+    // 01: rounds 0 to 15; 65 numbers of the table for each round. The log has 4. Both are plain numbers in C too, which lends the table.
     pub const ROUNDS: usize = 16;
 
     pub const TABLE_PER_ROUND: usize = 65;
@@ -100,7 +104,8 @@ impl State {
     pub const FIRINGS: usize = 136;
 }
 
-// What a call does not change: the roll, its total power, and the offer.
+// What a call does not change: the roll, its total power, and the offer. No invariant that the total is the roll's: `act` and `begin` (firing)
+// promise what they do with any.
 #[derive(Clone, Copy)]
 pub struct Given {
     pub roll: Roll,
@@ -112,7 +117,6 @@ pub struct Given {
 // round to go to.
 #[derive(Clone, Copy)]
 pub enum Rule {
-    Nothing,
     Line22,
     Line28,
     Line34,
@@ -123,6 +127,7 @@ pub enum Rule {
     Line55(Round),
 }
 
+// What a call is given. `kind`, `sender`, `valid` and `verdict` are numbers, and not enums or a bool: refusal 5 answers the others.
 #[derive(Clone, Copy)]
 pub struct Input {
     pub kind: u8,
@@ -135,7 +140,20 @@ pub struct Input {
     pub offer: u64,
 }
 
-// 01's kinds of inputs.
+// The kinds of inputs; a number that is none of them is refused (5).
+#[derive(Clone, Copy, PartialEq, Eq)]
+pub enum InputKind {
+    Start,
+    Proposal,
+    Vote(Votes),
+    Timer(Step),
+}
+
+// A number that no kind of input has.
+#[derive(Clone, Copy, PartialEq, Eq)]
+pub struct UnknownKind(pub u8);
+
+// 01's numbers of the kinds of inputs.
 impl Input {
     pub const START: u8 = 1;
 
@@ -152,6 +170,7 @@ impl Input {
     pub const TIMER_PRECOMMIT: u8 = 7;
 }
 
+// What a call sends. `kind` is the number that a group of the journal has, read back as it stands.
 #[derive(Clone, Copy)]
 pub struct Output {
     pub kind: u8,
@@ -160,7 +179,16 @@ pub struct Output {
     pub name: u64,
 }
 
-// 01's kinds of outputs.
+// The kinds of outputs.
+#[derive(Clone, Copy, PartialEq, Eq)]
+pub enum OutputKind {
+    Proposal,
+    Vote(Votes),
+    Ask(Step),
+    Settled,
+}
+
+// 01's numbers of the kinds of outputs.
 impl Output {
     pub const PROPOSAL: u8 = 1;
 
@@ -177,7 +205,8 @@ impl Output {
     pub const SETTLED: u8 = 7;
 }
 
-// The outputs of a call, in order: the first `count` of `list`.
+// The outputs of a call, in order: the first `count` of `list`. Six places and no Vec: the engine has no heap. No invariant that `count` is at most
+// 6: `packed` (specs) makes one of any list, and `flat_reply` (twins) promises its answer of any.
 #[derive(Clone, Copy)]
 pub struct Sent {
     pub count: usize,

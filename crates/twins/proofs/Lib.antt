@@ -1,3 +1,2 @@
 -- Laws of the flat twins.
-pub mod Mapping
 pub mod Back

@@ -1,32 +1,24 @@
 // The state and its twin.
 ghost use Rattle.std.specs.Prelude.{◌≡◌};
 ghost use Rattle.kiosk.specs.InContracts.Lent as lent;
-ghost use Rattle.twins.specs.Twins.{flag, phase_of, phase_number, step_of, step_number, holds, kiosk_of, roll_of, flat_kiosk};
+ghost use Rattle.twins.specs.Twins.{phase_of, phase_number, step_of, holds, kiosk_of, roll_of, flat_kiosk};
 ghost use Rattle.twins.specs.InContracts.Parts.{course_of, bare};
 
 use flat::FlatKiosk;
 use kiosk::Course;
 use roll::{Height, PlusOne, Roll, Round};
-use rules::enums::settled_round;
 use rules::{Asked, Held, Log, Phase, Progress, Stand, Step};
 
-// A truth as 0 or 1.
-fn flag(b: bool) -> u8
-    ensures { result ≡ flag b }
-{
-    if b { 1 } else { 0 }
-}
+// A phase and a step by number. No `TryFrom`: `holds` has refused other numbers, and the definitions take any for the last.
 
 fn phase_of(phase: u8, settled: u8) -> Phase
     ensures { result ≡ phase_of phase settled }
 {
-    if phase == 0 {
-        return Phase::Fresh;
+    match phase {
+        0 => Phase::Fresh,
+        1 => Phase::Running,
+        _ => Phase::Settled(Round(settled)),
     }
-    if phase == 1 {
-        return Phase::Running;
-    }
-    Phase::Settled(Round(settled))
 }
 
 fn phase_number(p: Phase) -> u8
@@ -42,41 +34,31 @@ fn phase_number(p: Phase) -> u8
 fn step_of(step: u8) -> Step
     ensures { result ≡ step_of step }
 {
-    if step == 0 {
-        return Step::Propose;
-    }
-    if step == 1 {
-        return Step::Prevote;
-    }
-    Step::Precommit
-}
-
-fn step_number(s: Step) -> u8
-    ensures { result ≡ step_number s }
-{
-    match s {
-        Step::Propose => 0,
-        Step::Prevote => 1,
-        Step::Precommit => 2,
+    match step {
+        0 => Step::Propose,
+        1 => Step::Prevote,
+        _ => Step::Precommit,
     }
 }
 
 // Whether a kiosk's types can hold what the twin says.
+#[tactic(auto, unfolding(crate::specs::Twins::holds))]
 pub fn holds(f: FlatKiosk) -> bool
     ensures { result ≡ holds f }
 {
-    (f.phase <= 2)
-        & ((f.phase == 2) | (f.settled == 0))
-        & (f.step <= 2)
-        & (f.asked_propose <= 1)
-        & (f.asked_prevote <= 1)
-        & (f.asked_precommit <= 1)
-        & (f.backed <= 1)
+    f.phase <= 2
+        && (f.phase == 2 || f.settled == 0)
+        && f.step <= 2
+        && f.asked_propose <= 1
+        && f.asked_prevote <= 1
+        && f.asked_precommit <= 1
+        && f.backed <= 1
 }
 
 pub fn roll_of(f: FlatKiosk) -> Roll
     ensures { result ≡ (kiosk_of f).state.roll }
 {
+    // An array field goes into the literal by way of a name: the check has no rule for `powers: f.powers`.
     let powers = f.powers;
     Roll {
         kiosks: f.kiosks,
@@ -126,15 +108,20 @@ pub fn course_of(f: FlatKiosk) -> Course
 pub fn bare(roll: Roll, log: Log) -> FlatKiosk
     ensures { result ≡ bare roll log }
 {
-    let powers = roll.powers;
+    let Roll {
+        kiosks,
+        powers,
+        own,
+        height,
+    } = roll;
     FlatKiosk {
-        kiosks: roll.kiosks,
-        own: roll.own,
+        kiosks,
+        own,
         used: 0,
         last: 0,
         locked_name: 0,
         valid_name: 0,
-        height: roll.height.0,
+        height: height.0,
         powers,
         phase: 0,
         settled: 0,
@@ -154,24 +141,25 @@ pub fn bare(roll: Roll, log: Log) -> FlatKiosk
 pub fn with_course(mut f: FlatKiosk, course: Course) -> FlatKiosk
     ensures { result ≡ flat_kiosk (lent.kiosk_of (roll_of f) course f.log) }
 {
-    let progress = course.progress;
-    let phase = progress.phase;
-    let stand = progress.stand;
-    let step = stand.step;
-    let asked = stand.asked;
+    let Progress {
+        phase,
+        stand,
+        locked,
+        valid,
+    } = course.progress;
     f.used = course.used;
     f.last = course.last;
-    f.locked_name = progress.locked.name;
-    f.valid_name = progress.valid.name;
+    f.locked_name = locked.name;
+    f.valid_name = valid.name;
     f.phase = phase_number(phase);
-    f.settled = settled_round(phase);
+    f.settled = phase.settled_round();
     f.round = stand.round.0;
-    f.step = step_number(step);
-    f.asked_propose = flag(asked.propose);
-    f.asked_prevote = flag(asked.prevote);
-    f.asked_precommit = flag(asked.precommit);
-    f.backed = flag(stand.backed);
-    f.locked_next = progress.locked.next.0;
-    f.valid_next = progress.valid.next.0;
+    f.step = stand.step as u8;
+    f.asked_propose = u8::from(stand.asked.propose);
+    f.asked_prevote = u8::from(stand.asked.prevote);
+    f.asked_precommit = u8::from(stand.asked.precommit);
+    f.backed = u8::from(stand.backed);
+    f.locked_next = locked.next.0;
+    f.valid_next = valid.next.0;
     f
 }

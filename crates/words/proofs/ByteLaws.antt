@@ -1,8 +1,10 @@
 -- Laws of numbers as bytes, and of bytes laid over others. Assumes nothing.
-use Prim.Native.Nat.{ℕ, zero, suc, ◌+◌, ◌*◌, ◌-◌, ◌/◌, ◌^◌, ◌≤◌, ◌<◌}
+use Prim.Native.Nat.{ℕ, zero, suc, ◌+◌, ◌*◌, ◌-◌, ◌/◌, ◌%◌, ◌^◌, ◌≤◌, ◌<◌}
 use mathlib.Core.Path.{◌≡◌, refl, ap, sym, ◌∙◌}
 use mathlib.Core.List.{List, [], ◌∷◌, ◌++◌, append_assoc, append-nil}
-use native.Mathlib.Nat.{pow-suc}
+use native.Mathlib.Nat.{pow-suc, div-one}
+use Rattle.std.proofs.Math.Nat.{div-div-eq-div-mul}
+use Rattle.std.specs.Int.{w16, w32, byte_at, bytes_low_first, from_le_bytes}
 use native.Mathlib.Numerals.{add-one}
 use native.Mathlib.Omega.{arith}
 use lib.ListN.{length, take, drop, set, get_or, length-append, length-drop, drop_of_length-le}
@@ -20,9 +22,27 @@ number_bytes (suc k) x h =
     let e : number (bytes k (x / 256)) ≡ x / 256 = number_bytes k (x / 256) (omega arith) in
     rw e (omega arith)
 
-pub length_bytes : (k x : ℕ) → length (bytes k x) ≡ k
-length_bytes zero x = refl
-length_bytes (suc k) x = ap suc (length_bytes k (x / 256))
+-- the bytes that `to_le_bytes` gives of a number are these
+pub low_first : (i k x : ℕ) → bytes_low_first i k x ≡ bytes k (x / 256 ^ i)
+low_first i zero x = refl
+low_first i (suc k) x =
+    let first : byte_at i x ≡ x / 256 ^ i % 256 = at_place i x in
+    let next : x / 256 ^ suc i ≡ x / 256 ^ i / 256 = rw pow-suc (sym (div-div-eq-div-mul x (256 ^ i) 256)) in
+    rw (first, low_first (suc i) k x, next)
+  where
+    at_place : (j y : ℕ) → byte_at j y ≡ y / 256 ^ j % 256
+    at_place zero y = rw (div-one y)
+    at_place (suc j) y = refl
+
+pub le_bytes : (k x : ℕ) → bytes_low_first 0 k x ≡ bytes k x
+le_bytes k x = low_first 0 k x ∙ ap (bytes k) (div-one x)
+
+-- the number that `from_le_bytes` reads of some bytes is theirs
+pub le_number2 : (a b : ℕ) → from_le_bytes w16 (a ∷ b ∷ []) ≡ number (a ∷ b ∷ [])
+le_number2 a b = omega arith
+
+pub le_number4 : (a b c d : ℕ) → from_le_bytes w32 (a ∷ b ∷ c ∷ d ∷ []) ≡ number (a ∷ b ∷ c ∷ d ∷ [])
+le_number4 a b c d = omega arith
 
 -- ---- a loop that lays s over the first bytes of d₀
 

@@ -2,7 +2,7 @@
 use Prim.Native.Nat.{ℕ, zero, suc, ◌+◌, ◌*◌, ◌-◌, ◌/◌, ◌%◌, ◌^◌, ◌≤◌, ◌<◌, max}
 use mathlib.Core.Path.{◌≡◌, refl, sym, ap, ◌∙◌}
 use mathlib.Core.Bool.{Bool, true, false, ◌||◌}
-use native.Mathlib.Nat.{pow-suc, div-one, div-eq_of_lt, zero-div, div-eq-sub-div}
+use native.Mathlib.Nat.{one-mul, mod-eq_of_lt, pow-suc, div-one, div-eq_of_lt, zero-div, div-eq-sub-div}
 use native.Mathlib.Numerals.{one-add}
 use native.Mathlib.Omega.{arith}
 use borrow.Author.Tests.{eqb-true, eqb-false}
@@ -51,6 +51,10 @@ mark_is_or m i =
     by_test (λ (x : ℕ). x ≡ bit_or m (2 ^ i)) (marked m i)
     (λ e. let one = rw (eqb-true (m / 2 ^ i % 2) 1 e) at both in omega arith)
     (λ e. let none : m / 2 ^ i % 2 ≡ 0 = omega (arith, eqb-false (m / 2 ^ i % 2) 1 e) in let zero' = rw none at both in omega arith)
+
+-- the digit as `1 << i` of 32 digits makes it
+pub mark_shifted : (m i : ℕ) → i < 32 → mark m i ≡ bit_or m (1 * 2 ^ i % 4294967296)
+mark_shifted m i h = rw (mark_is_or m i, one-mul (2 ^ i), mod-eq_of_lt (pow-lt h))
 
 -- the digit of seat i marks that seat and no other
 one_mark : (i j : ℕ) → marked (2 ^ i) j ≡ eqb i j
@@ -102,7 +106,6 @@ every_marked = all_marked 32
 -- ---- the lowest seat marked
 
 record Lowest (k m t : ℕ) : Type 0 where
-  pub seat : t < k
   pub there : 2 ^ t ≤ m
   pub digit : m / 2 ^ t % 2 ≡ 1
   pub others : bit_and m (m - 1) ≡ m - 2 ^ t
@@ -120,7 +123,7 @@ lowest_digit (suc k) m p l =
         let half : (m - 1) / 2 ≡ m / 2 = omega arith in
         let same = ap (bit_and (m / 2)) half ∙ and_self (m / 2) in
         let rest : bit_and m (m - 1) ≡ m - 2 ^ 0 = omega (arith, and_step m (m - 1), same) in
-        rw one (record { seat = omega arith; there = omega arith; digit = rw (div-one m) one; others = rest })
+        rw one (record { there = omega arith; digit = rw (div-one m) one; others = rest })
 
     even : m % 2 ≡ 0 → Lowest k (m / 2) (count_trailing_zeros k (m / 2)) → Lowest (suc k) m (under (m % 2) (count_trailing_zeros k (m / 2)))
     even none low =
@@ -130,17 +133,12 @@ lowest_digit (suc k) m p l =
         let rest : bit_and m (m - 1) ≡ m - 2 ^ suc t = omega (arith, and_step m (m - 1), fewer, pow-suc 2 t, low.there) in
         let halves : m / 2 ^ suc t ≡ m / 2 / 2 ^ t = ap (λ (n : ℕ). m / 2 ^ n) (sym (one-add t)) ∙ sym (shr-shr m 1 t) in
         rw none (record {
-          seat = omega (arith, low.seat);
           there = omega (arith, pow-suc 2 t, low.there);
           digit = ap (λ (x : ℕ). x % 2) halves ∙ low.digit;
           others = rest;
         })
 
 module _ (k m : ℕ) (p : 0 < m) (l : m < 2 ^ k) where
-  -- it is one of those that the number has room for
-  pub lowest_seat : count_trailing_zeros k m < k
-  lowest_seat = (lowest_digit k m p l).seat
-
   -- `m & (m - 1)` takes its digit away
   pub lowest_away : bit_and m (m - 1) ≡ m - 2 ^ count_trailing_zeros k m
   lowest_away = (lowest_digit k m p l).others

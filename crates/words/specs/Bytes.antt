@@ -1,7 +1,7 @@
 -- Numbers as bytes, "little-endian" (01, "Journal"); bytes laid over others; bytes held against the expected ones. Assumes nothing.
-use Rattle.std.specs.Prelude.{ℕ, zero, suc, ◌+◌, ◌*◌, ◌/◌, ◌%◌, List, [], ◌∷◌, ◌++◌, length, take, drop, eqb, if◌then◌else◌}
-use Rattle.words.specs.declared.Reading.{Reading}
-use Rattle.words.specs.declared.Reading.TheVariants.{Whole, Unfinished, Damage}
+use Rattle.std.specs.Prelude.{ℕ, zero, suc, ◌+◌, ◌*◌, ◌/◌, ◌%◌, List, [], ◌∷◌, ◌++◌, length, take, drop, eqb, if◌then◌else◌, Result, Ok, Err}
+use Rattle.words.specs.declared.Fault.{Fault}
+use Rattle.words.specs.declared.Fault.TheVariants.{Unfinished, Damage}
 
 -- x in k bytes, the lowest first
 abbrev pub bytes : ℕ → ℕ → List ℕ
@@ -23,9 +23,9 @@ abbrev pub overwrite : List ℕ → ℕ → List ℕ → List ℕ
 overwrite l at part = take at l ++ (part ++ drop (at + length part) l)
 
 -- "must equal the expected ones as far as they go; too few means unfinished": bytes found, and bytes expected
-unfoldable pub compared : List ℕ → List ℕ → Reading
-compared found [] = Whole
-compared [] (w ∷ expected) = Unfinished
+unfoldable pub compared : List ℕ → List ℕ → Result (Unit {0}) Fault
+compared found [] = Ok tt
+compared [] (w ∷ expected) = Err Unfinished
 compared (b ∷ found) (w ∷ expected) =
     let later = compared found expected in
-    if eqb b w then later else Damage
+    if eqb b w then later else Err Damage

@@ -4,10 +4,9 @@
 pub mod bytes;
 pub mod marks;
 
-// What bytes are, held against the ones expected in their place.
-#[derive(Clone, Copy)]
-pub enum Reading {
-    Whole,
+// Why bytes are not the expected ones in whole: they are too few, or one differs.
+#[derive(Clone, Copy, PartialEq, Eq)]
+pub enum Fault {
     Unfinished,
     Damage,
 }

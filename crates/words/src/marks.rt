@@ -16,6 +16,7 @@ pub fn is_marked(marks: u32, seat: usize) -> bool
 }
 
 // The marks with the seat's set.
+#[tactic(auto, using(crate::proofs::MarkLaws::mark_shifted))]
 pub fn with_mark(marks: u32, seat: usize) -> u32
     requires { seat < 32 }
     ensures { result ≡ mark marks seat }
@@ -38,6 +39,7 @@ pub fn lowest(marks: u32) -> usize
 }
 
 // The marks without the lowest seat's.
+#[tactic(auto, using(crate::proofs::MarkLaws::lowest_away))]
 pub fn without_lowest(marks: u32) -> u32
     requires { 0 < marks }
     ensures { result ≡ marks - 2 ^ count_trailing_zeros 32 marks }

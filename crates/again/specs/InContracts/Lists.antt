@@ -5,11 +5,14 @@ use Rattle.roll.specs.Weighing.{most_kiosks}
 use Rattle.rules.specs.declared.Output.{Output}
 use Rattle.rules.specs.declared.Sent.{Sent}
 use Rattle.rules.specs.Log.{desk}
+use Rattle.rules.specs.declared.desk.Desk as lent
+use Rattle.rules.specs.InContracts.Lent.{shown}
 use Rattle.rules.specs.Sent.{packed}
 use Rattle.rules.specs.InContracts.Ready.{so_far}
 use Rattle.journal.specs.Layout.{header_length}
 use Rattle.refusals.specs.Possible.{desk_fits}
 use Rattle.kiosk.specs.declared.Kiosk.{Kiosk}
+use Rattle.kiosk.specs.declared.Course.{Course}
 use Rattle.again.specs.Again.{messages}
 
 -- a list has room for these outputs after its own
@@ -28,3 +31,7 @@ pub record Awake (k : Kiosk) (b table : List ℕ) : Type 0 where
   pub there : k.used ≤ length b
   pub few : length (messages k b) ≤ 6
   pub possible : desk_fits (desk k.state table) ≡ true
+
+-- the questions of a call are asked of this course, in a state and a table that are possible
+abbrev pub Asks : lent.Desk → Course → Type 0
+Asks d course = (desk_fits (shown d) ≡ true) × (d.progress.now ≡ course.progress)

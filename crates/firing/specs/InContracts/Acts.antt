@@ -1,24 +1,25 @@
 -- An act: the progress after it and at most one output; and what it does to a desk. Assumes nothing.
-use Rattle.std.specs.Prelude.{ℕ, ◌<◌, ◌≡◌, List, get_or, true, false, if◌then◌else◌}
+use Rattle.std.specs.Prelude.{ℕ, ◌<◌, ◌≡◌, List, get_or, Option, Some, None}
 use Rattle.roll.specs.declared.Roll.{Roll}
 use Rattle.rules.specs.declared.Heard.{Heard}
 use Rattle.rules.specs.declared.Held.{Held}
 use Rattle.rules.specs.declared.Progress.{Progress}
 use Rattle.rules.specs.declared.Rule.{Rule}
-use Rattle.rules.specs.declared.Rule.TheVariants.{Nothing, Line22, Line28, Line34, Line36, Line44, Line47, Line49, Line55}
+use Rattle.rules.specs.declared.Rule.TheVariants.{Line22, Line28, Line34, Line36, Line44, Line47, Line49, Line55}
 use Rattle.rules.specs.declared.Output.{Output}
 use Rattle.rules.specs.State.{most_rounds, state_of, with_progress, standing, validating, with_backed}
 use Rattle.rules.specs.Log.{Desk, with_state, proposal_place, told}
 use Rattle.rules.specs.Doing.{output, say}
-use Rattle.rules.specs.Sent.{no_output}
 use Rattle.rules.specs.InContracts.Ready.{midway}
 use Rattle.firing.specs.declared.Act.{Act}
 
--- a desk after an act
+-- a desk after an output, where there is one, and after an act
+abbrev pub says : Option Output → Desk → Desk
+says None d = d
+says (Some o) d = say o d
+
 abbrev pub done : Act → Desk → Desk
-done a d =
-    let e = with_state (with_progress a.progress d.state) d in
-    if a.sends then say a.output e else e
+done a d = says a.output (with_state (with_progress a.progress d.state) d)
 
 -- an act does this to every desk of this roll with this progress; with this log and table; whatever the roll is; and where this is
 -- heard of the current round and this is its sheet
@@ -39,7 +40,6 @@ does_hearing a roll p h sheet f =
 
 -- a rule that names a round names one there is
 abbrev pub rule_fits : Rule → Type 0
-rule_fits Nothing = Unit
 rule_fits Line22 = Unit
 rule_fits Line28 = Unit
 rule_fits Line34 = Unit
@@ -55,7 +55,7 @@ backing h v = validating h (standing (with_backed v.stand) v)
 
 -- an act that sends an output of this kind in the current round, and one that sends nothing
 abbrev pub saying : Progress → ℕ → ℕ → ℕ → Act
-saying v kind valid name = record { progress = v; sends = true; output = output kind v.stand.round.0 valid name }
+saying v kind valid name = record { progress = v; output = Some (output kind v.stand.round.0 valid name) }
 
 abbrev pub moving : Progress → Act
-moving v = record { progress = v; sends = false; output = no_output }
+moving v = record { progress = v; output = None }

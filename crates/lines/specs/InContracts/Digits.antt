@@ -1,7 +1,6 @@
 -- A word of digits, byte by byte. Assumes nothing.
-use Rattle.std.specs.Prelude.{ℕ, List, [], ◌∷◌, Bool, true, false, not, ◌&&◌, leb, eqb, if◌then◌else◌}
-use Rattle.lines.specs.declared.Number.{Number}
-use Rattle.lines.specs.Reading.{said, is, none}
+use Rattle.std.specs.Prelude.{ℕ, List, [], ◌∷◌, Bool, true, false, not, ◌&&◌, leb, eqb, if◌then◌else◌, Option, Some, None}
+use Rattle.lines.specs.Reading.{said}
 
 abbrev pub is_digit : ℕ → Bool
 is_digit b = leb 48 b && leb b 57
@@ -17,5 +16,5 @@ plain (b ∷ []) = true
 plain (b ∷ c ∷ word) = not (eqb b 48)
 
 -- the number that a word of digits says, up to `most`
-unfoldable pub digits_word : ℕ → List ℕ → Number
-digits_word most word = if leb (said word) most && all_digits word then is (said word) else none
+unfoldable pub digits_word : ℕ → List ℕ → Option ℕ
+digits_word most word = if leb (said word) most && all_digits word then Some (said word) else None

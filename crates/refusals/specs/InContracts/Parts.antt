@@ -1,20 +1,22 @@
 -- Parts of the refusals that functions of the code answer by themselves. Only the code's contracts are written in this file. Assumes
 -- nothing.
-use Rattle.std.specs.Prelude.{ℕ, ◌^◌, Bool, ◌&&◌, ◌||◌, not, ltb, leb, eqb, if◌then◌else◌}
-use Rattle.rules.specs.declared.Votes.{Votes}
-use Rattle.rules.specs.declared.Votes.TheVariants.{Prevotes, Precommits}
-use Rattle.rules.specs.declared.Heard.{Heard}
-use Rattle.rules.specs.declared.Input.{Input}
-use Rattle.rules.specs.Kinds.{vote_in}
-use Rattle.rules.specs.State.{spoken}
+use Rattle.std.specs.Prelude.{Bool, ◌&&◌, length, eqb, ltb, if◌then◌else◌}
+use Rattle.roll.specs.Weighing.{roll_fits, own_fits}
+use Rattle.rules.specs.State.{settled_round}
+use Rattle.rules.specs.Log.{Desk, table_length}
+use Rattle.rules.specs.Doing.{current}
+use Rattle.refusals.specs.declared.Answer.{Answer}
+use Rattle.refusals.specs.declared.Answer.TheVariants.{HeardSame, HeardOther}
 
--- refusal 1: the marks of a round are of seats on a roll of n kiosks; its proposal, of this name, may be heard of round r
-abbrev pub marks_fit : ℕ → Heard → Bool
-marks_fit n h = ltb h.prevotes (2 ^ n) && ltb h.precommits (2 ^ n)
+-- refusal 1, the tests that the others rely on: the roll, the own number, the table's length, and rounds that there are
+abbrev pub numbers_fit : Desk → Bool
+numbers_fit d =
+    roll_fits d.state.roll &&
+    own_fits d.state.roll &&
+    eqb (length d.table) table_length &&
+    ltb (current d) d.rounds &&
+    ltb (settled_round d.state.progress.phase) d.rounds
 
-abbrev pub proposed_fits : ℕ → ℕ → Heard → Bool
-proposed_fits r name h = not (spoken h) || (not (eqb name 0) && leb h.valid r)
-
--- refusals 8 and 9: the type of vote that an input is, where it is a vote
-abbrev pub votes_of : Input → Votes
-votes_of i = if eqb i.kind (vote_in Prevotes) then Prevotes else Precommits
+-- refusals 8 and 9, by whether the place that is heard holds the same
+abbrev pub heard_already : Bool → Answer
+heard_already same = if same then HeardSame else HeardOther

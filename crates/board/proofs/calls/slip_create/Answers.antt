@@ -4,4 +4,4 @@ use Rattle.board.proofs.Through.{creates}
 use Rattle.board.proofs.calls.slip_create.Goals as goal
 
 pub returns : goal.returns
-returns c = creates _ _ _ _ _ _ _ c.create-made.ensures c.number_of.ensures refl
+returns c = creates _ _ _ _ _ _ _ c.create-made.ensures c.from.ensures refl

@@ -9,4 +9,4 @@ returns-then-not-holds c = says_1 _ _ _ _ _ (sym c.holds.ensures ∙ c.if-not-ho
 pub returns : goal.returns
 returns c =
     says _ _ _ _ _ _ _ _ _ _ _ (sym c.holds.ensures ∙ c.if-not-holds.false) c.input_of.ensures refl
-    c.course_of-course.ensures (rw c.roll_of-roll.ensures at c.put_lent-d.ensures) c.flat_done.ensures
+    c.course_of.ensures (rw c.roll_of.ensures at c.put_lent-done.ensures) c.flat_done.ensures

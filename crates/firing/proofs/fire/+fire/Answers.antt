@@ -1,65 +1,43 @@
 -- The goals of `firing::fire::fire`: each call of a turn, and each return, by the laws of firing.
-use mathlib.Core.Bool.{false≢true, not}
-use mathlib.Core.Path.{ap}
 use native.Mathlib.Omega.{arith}
-use Rattle.words.proofs.Choice.{by_cases}
-use Rattle.firing.proofs.Fires.{first_fits, own_seat, says_there, applies, room_to_send, room_to_say, firing_next, ends_last, ends_here, fires_on, leaves_on}
+use Rattle.firing.proofs.Turns.{some_so}
+use Rattle.firing.proofs.Fires.{found_fits, own_seat, ends_none_left, ends_no_rule, room_to_send, room_to_say, firing_next, leaves_next}
 use Rattle.firing.proofs.fire.+fire.Goals as goal
 
-pub act_on-a-requires : goal.act_on-a-requires
-act_on-a-requires t c = (c.requires.0.ready, rw c.requires.1 (first_fits _ _))
+pub returns-then-left-eq0-clause-leaves : goal.returns-then-left-eq0-clause-leaves
+returns-then-left-eq0-clause-leaves t c = ends_none_left _ _ _ _ _ _ _ _ c.requires.0 c.if-left-eq0.true
+
+pub returns-in_default-clause-leaves : goal.returns-in_default-clause-leaves
+returns-in_default-clause-leaves t c = ends_no_rule _ _ _ _ _ _ _ _ c.requires.0 c.in_default.ensures
+
+pub act_on-act-requires : goal.act_on-act-requires
+act_on-act-requires t c = (c.requires.0.ready, found_fits _ _ _ c.in-Some.ensures, c.requires.1)
 
 pub hear_own-requires : goal.hear_own-requires
 hear_own-requires t c =
-    let fires = c.requires in
-    let act = c.act_on-a in (
-      own_seat _ _ fires.0.ready,
-      says_there act.result act.ensures.round_lt_most_rounds,
-      room_to_say c.args.left _ _ _ _ _ _ _ _ act.result fires.0 fires.1 fires.2 act.ensures.does_at,
-      fires.0.long,
+    let f = c.requires.0 in
+    let act = c.act_on-act in (
+      own_seat _ _ f.ready,
+      room_to_say _ _ _ _ _ _ _ _ _ act.result f c.if-left-eq0.false c.in-Some.ensures act.ensures.does_at act.ensures.round_lt_most_rounds,
+      f.long,
     )
 
-pub send-more-requires : goal.send-more-requires
-send-more-requires t c =
-    let fires = c.requires in
-    let act = c.act_on-a in
-    by_cases act.result.sends
-    (λ on w. room_to_send c.args.left _ _ _ _ _ _ _ _ act.result fires.0 fires.1 fires.2 act.ensures.does_at on)
-    (λ off. rw off (λ w. absurd (false≢true w)))
-
-pub returns-then-left-eq0 : goal.returns-then-left-eq0
-returns-then-left-eq0 t c =
-    let fires = c.requires in
-    let act = c.act_on-a in
-    ends_last c.args.left _ _ _ _ _ _ _ _ act.result fires.0 fires.1 fires.2 act.ensures.does_at c.hear_own.ensures c.send-more.ensures c.if-left-eq0.true
-
-pub first_rule-later-requires : goal.first_rule-later-requires
-first_rule-later-requires t c =
-    let fires = c.requires in
-    let act = c.act_on-a in
-    ((firing_next c.args.left _ _ _ _ _ _ _ _ act.result fires.0 fires.1 fires.2 act.ensures.does_at c.hear_own.ensures c.send-more.ensures).ready, fires.3)
-
-pub returns-then-not-is_rule : goal.returns-then-not-is_rule
-returns-then-not-is_rule t c =
-    let fires = c.requires in
-    let act = c.act_on-a in
-    ends_here c.args.left _ _ _ _ _ _ _ _ act.result fires.0 fires.1 fires.2 act.ensures.does_at c.hear_own.ensures c.send-more.ensures _ c.first_rule-later.ensures c.is_rule.ensures (ap not c.if-not-is_rule.true)
+pub send-so_far-requires : goal.send-so_far-requires
+send-so_far-requires t c =
+    let act = c.act_on-act in
+    some_so act.result.output (room_to_send _ _ _ _ _ _ _ _ _ act.result c.requires.0 c.if-left-eq0.false c.in-Some.ensures act.ensures.does_at)
 
 pub fire-requires : goal.fire-requires
 fire-requires t c =
-    let fires = c.requires in
-    let act = c.act_on-a in (
+    let act = c.act_on-act in (
       omega arith,
       (
-        fires_on c.args.left _ _ _ _ _ _ _ _ act.result fires.0 fires.1 fires.2 act.ensures.does_at c.hear_own.ensures c.send-more.ensures c.if-left-eq0.false,
-        c.first_rule-later.ensures,
-        applies c.is_rule.ensures (ap not c.if-not-is_rule.false),
-        fires.3,
+        firing_next _ _ _ _ _ _ _ _ _ act.result c.requires.0 c.if-left-eq0.false c.in-Some.ensures act.ensures.does_at c.hear_own.ensures.puts c.send-so_far.ensures,
+        c.requires.1,
       ),
     )
 
-pub returns : goal.returns
-returns t c =
-    let fires = c.requires in
-    let act = c.act_on-a in
-    leaves_on c.args.left _ _ _ _ _ _ _ _ act.result fires.0 fires.1 fires.2 act.ensures.does_at c.hear_own.ensures c.send-more.ensures c.if-left-eq0.false c.fire.ensures
+pub returns-clause-leaves : goal.returns-clause-leaves
+returns-clause-leaves t c =
+    let act = c.act_on-act in
+    leaves_next _ _ _ _ _ _ _ _ _ act.result c.requires.0 c.if-left-eq0.false c.in-Some.ensures act.ensures.does_at c.hear_own.ensures.puts c.send-so_far.ensures c.fire.ensures.leaves

@@ -1,86 +1,17 @@
--- `lines::fields::kind` meets its contract, word by word. Assumes nothing.
-use mathlib.Core.Path.{sym, ◌∙◌}
-use Rattle.words.specs.Choice.{first_of}
+-- The goals of `lines::fields::kind`. Assumes nothing.
+use Rattle.std.proofs.Common.{sym, ◌∙◌, ◌≡◌, true}
+use borrow.Author.Tests.{lt-ltb}
+use native.Mathlib.Omega.{arith}
 use Rattle.listing.specs.Text.{input_word}
-use Rattle.lines.specs.Reading.{kind_of}
+use Rattle.lines.specs.Reading.{same, kind_of}
+use Rattle.lines.proofs.Words.{same_decided}
+use Rattle.lines.proofs.Line.{kind_first}
 use Rattle.lines.proofs.fields.kind.Goals as goal
 
-pub returns-then-is_word : goal.returns-then-is_word
-unfolding kind_of first_of input_word
-returns-then-is_word c = rw (sym c.is_word.ensures ∙ c.if-is_word.true)
-
-pub returns-then-is_word-2 : goal.returns-then-is_word-2
-unfolding kind_of first_of input_word
-returns-then-is_word-2 c =
-    rw (
-      sym c.is_word.ensures ∙ c.if-is_word.false,
-      sym c.is_word-2.ensures ∙ c.if-is_word-2.true,
-    )
-
-pub returns-then-is_word-3 : goal.returns-then-is_word-3
-unfolding kind_of first_of input_word
-returns-then-is_word-3 c =
-    rw (
-      sym c.is_word.ensures ∙ c.if-is_word.false,
-      sym c.is_word-2.ensures ∙ c.if-is_word-2.false,
-      sym c.is_word-3.ensures ∙ c.if-is_word-3.true,
-    )
-
-pub returns-then-is_word-4 : goal.returns-then-is_word-4
-unfolding kind_of first_of input_word
-returns-then-is_word-4 c =
-    rw (
-      sym c.is_word.ensures ∙ c.if-is_word.false,
-      sym c.is_word-2.ensures ∙ c.if-is_word-2.false,
-      sym c.is_word-3.ensures ∙ c.if-is_word-3.false,
-      sym c.is_word-4.ensures ∙ c.if-is_word-4.true,
-    )
-
-pub returns-then-is_word-5 : goal.returns-then-is_word-5
-unfolding kind_of first_of input_word
-returns-then-is_word-5 c =
-    rw (
-      sym c.is_word.ensures ∙ c.if-is_word.false,
-      sym c.is_word-2.ensures ∙ c.if-is_word-2.false,
-      sym c.is_word-3.ensures ∙ c.if-is_word-3.false,
-      sym c.is_word-4.ensures ∙ c.if-is_word-4.false,
-      sym c.is_word-5.ensures ∙ c.if-is_word-5.true,
-    )
-
-pub returns-then-is_word-6 : goal.returns-then-is_word-6
-unfolding kind_of first_of input_word
-returns-then-is_word-6 c =
-    rw (
-      sym c.is_word.ensures ∙ c.if-is_word.false,
-      sym c.is_word-2.ensures ∙ c.if-is_word-2.false,
-      sym c.is_word-3.ensures ∙ c.if-is_word-3.false,
-      sym c.is_word-4.ensures ∙ c.if-is_word-4.false,
-      sym c.is_word-5.ensures ∙ c.if-is_word-5.false,
-      sym c.is_word-6.ensures ∙ c.if-is_word-6.true,
-    )
-
-pub returns-then-is_word-7 : goal.returns-then-is_word-7
-unfolding kind_of first_of input_word
-returns-then-is_word-7 c =
-    rw (
-      sym c.is_word.ensures ∙ c.if-is_word.false,
-      sym c.is_word-2.ensures ∙ c.if-is_word-2.false,
-      sym c.is_word-3.ensures ∙ c.if-is_word-3.false,
-      sym c.is_word-4.ensures ∙ c.if-is_word-4.false,
-      sym c.is_word-5.ensures ∙ c.if-is_word-5.false,
-      sym c.is_word-6.ensures ∙ c.if-is_word-6.false,
-      sym c.is_word-7.ensures ∙ c.if-is_word-7.true,
-    )
-
-pub returns : goal.returns
-unfolding kind_of first_of input_word
-returns c =
-    rw (
-      sym c.is_word.ensures ∙ c.if-is_word.false,
-      sym c.is_word-2.ensures ∙ c.if-is_word-2.false,
-      sym c.is_word-3.ensures ∙ c.if-is_word-3.false,
-      sym c.is_word-4.ensures ∙ c.if-is_word-4.false,
-      sym c.is_word-5.ensures ∙ c.if-is_word-5.false,
-      sym c.is_word-6.ensures ∙ c.if-is_word-6.false,
-      sym c.is_word-7.ensures ∙ c.if-is_word-7.false,
-    )
+pub returns-then-eq : goal.returns-then-eq
+returns-then-eq c =
+    let w = c.args.word.now in
+    let k = c.loop-kind.kind in
+    let e : same w (input_word k) ≡ true = rw (c.input_word.ensures, c.from.ensures) at (sym (same_decided w c.input_word.result.now c.eq.result c.eq.ensures) ∙ c.if-eq.true) in
+    let o : kind_of w ≡ k = kind_first w k c.loop-kind.auto.kind c.loop-kind-test.true c.loop-kind.invariant e in
+    rw (o, lt-ltb 0 k (omega (arith, c.loop-kind.auto.kind)))

@@ -1,17 +1,11 @@
--- `lines::fields::valid` meets its contract. Assumes nothing.
-use mathlib.Core.Path.{sym, ◌∙◌}
-use Rattle.lines.specs.Reading.{valid_word}
-use Rattle.lines.proofs.Decimals.{number_below}
+-- The goals of `lines::fields::valid`. Assumes nothing.
+use Rattle.std.proofs.Common.{sym, ◌∙◌}
+use native.Mathlib.Omega.{arith}
+use Rattle.lines.proofs.Decimals.{number_written}
 use Rattle.lines.proofs.fields.valid.Goals as goal
 
-pub returns-then-is_word : goal.returns-then-is_word
-unfolding valid_word
-returns-then-is_word c = rw (sym c.is_word.ensures ∙ c.if-is_word.true)
+pub overflow_cast-result : goal.overflow_cast-result
+overflow_cast-result c = let h = number_written 254 c.args.word.now c.in_ok-round.round (sym c.number.ensures ∙ c.in_ok-round.was) in omega (arith, h.0)
 
-pub next_of-requires : goal.next_of-requires
-next_of-requires c = rw c.number.ensures (number_below 254 _)
-
-pub returns : goal.returns
-unfolding valid_word
-returns c =
-    c.next_of.ensures ∙ rw (c.number.ensures, sym c.is_word.ensures ∙ c.if-is_word.false)
+pub overflow_add-result : goal.overflow_add-result
+overflow_add-result c = let h = number_written 254 c.args.word.now c.in_ok-round.round (sym c.number.ensures ∙ c.in_ok-round.was) in omega (arith, h.0)

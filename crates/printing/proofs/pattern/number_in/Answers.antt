@@ -1,7 +1,0 @@
--- `printing::pattern::number_in` meets its contract. Assumes nothing.
-use mathlib.Core.Path.{sym}
-use lib.ListN.{get_or-eq_default}
-use Rattle.printing.proofs.pattern.number_in.Goals as goal
-
-pub returns : goal.returns
-returns c = sym (get_or-eq_default c.args.numbers.now 0 c.if-k-numbers.false)
