@@ -24,6 +24,7 @@ fn group_text(group: &[u8]) -> Text
     requires { (26 ≤ length group.now) × (count_of group.now ≤ 6) }
     ensures { text_of result ≡ said group.now }
 {
+    // Its casts only widen, beside those of lengths, which have no `From`.
     let count = group[25];
     let mut text = Text::new();
     text.line(b"accepted %\n", &[count as u64]);
