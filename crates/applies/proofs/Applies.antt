@@ -39,6 +39,10 @@ module _ (v : Votes) (d : Desk) (r : ℕ) where
   unfolding good_sheets first_of
   sheet_so g e = rw (g, e)
 
+  -- where the votes under any name are not large
+  pub sheet_none : is_large d (power v d r) ≡ false → sheet_for v d r ≡ 0
+  sheet_none few = first_none (good_sheets d r) _ (λ name. few_for v d r name _ few)
+
   pub sheet_unnamed : proposed d r ≡ 0 → sheet_for v d r ≡ 0
   sheet_unnamed e =
       by_cases (good (heard d r))
@@ -69,7 +73,7 @@ module _ (d : Desk) where
   -- where the prevotes of the round are not large
   few_backed : is_large d (power Prevotes d (current d)) ≡ false → backed_sheet d ≡ 0
   unfolding backed_sheet
-  few_backed few = first_none (good_sheets d (current d)) _ (λ name. few_for Prevotes d (current d) name _ few)
+  few_backed few = sheet_none Prevotes d (current d) few
 
   few_not_36 : is_large d (power Prevotes d (current d)) ≡ false → applies_36 d ≡ false
   unfolding applies_36

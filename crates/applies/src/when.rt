@@ -1,7 +1,8 @@
 // When each rule applies, and which is the first. What is cheap to ask is asked before anything is weighed, and the names of votes are
 // read only where the votes under any name are large.
-ghost use Rattle.std.specs.Prelude.{◌<◌, ◌≡◌, true, false, ◌&&◌, ◌||◌, not, if◌then◌else◌, Some, None, MatchOption};
+ghost use Rattle.std.specs.Prelude.{◌<◌, ◌≤◌, ◌≡◌, true, false, ◌&&◌, ◌||◌, not, eqb, if◌then◌else◌, Some, None, MatchOption};
 ghost use Rattle.std.specs.Int.Bits.{bit_or};
+ghost use Rattle.words.specs.Choice.{lowest_below};
 ghost use Rattle.words.specs.Marks.{mark};
 ghost use Rattle.roll.specs.Weighing.{most_kiosks};
 ghost use Rattle.rules.specs.State.{most_rounds, is_propose, is_prevote, spoken, good};
@@ -67,7 +68,7 @@ fn awaits_prevotes(d: &Desk) -> bool
     stand.step == Step::Prevote && !stand.asked.prevote
 }
 
-// The sheet of a round's good proposal, where large votes of a type are for it.
+// The sheet of a round's good proposal, where large votes of a type are for it. Asked where the votes under any name are large.
 #[inline(always)]
 fn large_sheet(d: &Desk, v: Votes, r: Round) -> Option<u64>
     requires { Weighs d.now × (r.0 < most_rounds) }
@@ -77,7 +78,7 @@ fn large_sheet(d: &Desk, v: Votes, r: Round) -> Option<u64>
         return None;
     }
     let name = d.proposed(r);
-    if name != 0 && d.is_large_for(v, r, name) {
+    if name != 0 && d.is_large_by_name(v, r, name) {
         Some(name)
     } else {
         None
@@ -104,7 +105,7 @@ fn applies_44(d: &Desk) -> bool
     ensures { result ≡ applies_44 (shown d.now) }
 {
     let stand = &d.progress.stand;
-    stand.step == Step::Prevote && d.is_large_for(Votes::Prevotes, stand.round, 0)
+    stand.step == Step::Prevote && d.is_large_by_name(Votes::Prevotes, stand.round, 0)
 }
 
 // The rules that weigh the prevotes of the current round: 34, 36 and 44.
@@ -140,14 +141,41 @@ fn applies_47(d: &Desk) -> bool
     !stand.asked.precommit && d.is_large(Votes::Precommits, stand.round)
 }
 
+// Line 49 at a round: the sheet that can be settled. A round without a good proposal is passed before anything is weighed.
+#[inline(always)]
+fn closing_sheet(d: &Desk, r: Round) -> Option<u64>
+    requires { Weighs d.now × (r.0 < most_rounds) }
+    ensures { result ≡ named (closing_sheet (shown d.now) r.0) }
+{
+    if d.heard(r).is_good() && d.is_large(Votes::Precommits, r) {
+        large_sheet(d, Votes::Precommits, r)
+    } else {
+        None
+    }
+}
+
+// The first round with a good proposal, in a loop that does nothing else; the number of rounds where there is none.
+fn first_good(d: &Desk) -> usize
+    requires { Weighs d.now }
+    ensures most { result ≤ most_rounds }
+    ensures none_before { lowest_below result (λ r. not (eqb (closing_sheet (shown d.now) r) 0)) ≡ result }
+{
+    for r in 0..State::ROUNDS {
+        if d.heard(Round(r as u8)).is_good() {
+            return r;
+        }
+    }
+    State::ROUNDS
+}
+
 // Line 49: the lowest round with a sheet that can be settled, and the sheet.
 fn closing(d: &Desk) -> Option<(Round, u64)>
     requires { Weighs d.now }
     ensures { is_lowest_closing (shown d.now) result }
 {
-    for r in 0..State::ROUNDS {
+    for r in first_good(d)..State::ROUNDS {
         let round = Round(r as u8);
-        if let Some(sheet) = large_sheet(d, Votes::Precommits, round) {
+        if let Some(sheet) = closing_sheet(d, round) {
             return Some((round, sheet));
         }
     }

@@ -1,9 +1,10 @@
 -- Laws of weighing, over any test of the seats. Assumes nothing.
 use Rattle.std.specs.Bool.{if◌then◌else◌}
+use Rattle.std.specs.Prelude.{fold}
 use Prim.Native.Nat.{ℕ, zero, suc, ◌+◌, ◌*◌, ◌-◌, ◌≤◌, ◌<◌}
-use mathlib.Core.Path.{◌≡◌, refl, ap, ◌∙◌}
-use mathlib.Core.Bool.{Bool, true, false, ◌&&◌, ◌||◌, false≢true}
-use mathlib.Core.List.{List}
+use mathlib.Core.Path.{◌≡◌, refl, ap, sym, ◌∙◌}
+use mathlib.Core.Bool.{Bool, true, false, ◌&&◌, ◌||◌, false≢true, and_assoc, and-true}
+use mathlib.Core.List.{List, [], ◌∷◌}
 use native.Mathlib.Numerals.{add-one}
 use native.Mathlib.Omega.{arith}
 use borrow.Author.Tests.{eqb-true, eq-eqb, ne_eqb, ltb-false, le-ltb, le-leb, lt-leb, leb-true}
@@ -50,6 +51,11 @@ large_not ps f g n total e fails =
     let few = ltb-false (2 * total) _ fails in
     let less = power_mono ps (λ i. f i && g i) f n (λ i l. and_left (f i) (g i)) in
     le-ltb (2 * total) _ (omega (arith, e, few, less))
+
+-- a test of each number of a list, the answers joined from the first on
+pub all_joined : (test : ℕ → Bool) (fit : Bool) (xs : List ℕ) → fold (λ a x. a && test x) fit xs ≡ (fit && list_all test xs)
+all_joined test fit [] = sym (and-true fit)
+all_joined test fit (x ∷ xs) = all_joined test (fit && test x) xs ∙ and_assoc fit (test x) (list_all test xs)
 
 -- a test of each of the first n numbers of a list
 pub all_first : (test : ℕ → Bool) (n : ℕ) (xs : List ℕ) → n ≤ length xs → list_all test (take n xs) ≡ all_below n (λ i. test (get_or xs i 0))

@@ -59,9 +59,9 @@ impl Roll {
         }
         let mut sum = 0;
         for (seat, power) in self.powers[..self.kiosks].iter().enumerate() {
-            if is_marked(marks, seat) {
-                sum += u32::from(*power);
-            }
+            // No branch on a mark, for marks are as they come: so many seats are weighed at once.
+            let power = u32::from(*power);
+            sum += if is_marked(marks, seat) { power } else { 0 };
         }
         Power(sum)
     }
@@ -110,14 +110,14 @@ impl Roll {
         (self.height.0 as usize + usize::from(r.0)) % self.kiosks
     }
 
-    // Whether no kiosk has more power than one may have.
+    // Whether no kiosk has more power than one may have. Without an early return, many are asked at once.
     fn powers_fit(&self) -> bool
         requires { self.now.kiosks ≤ most_kiosks }
         ensures { result ≡ all_below self.now.kiosks (λ i. leb (get_or self.now.powers i 0) most_power) }
     {
         self.powers[..self.kiosks]
             .iter()
-            .all(|power| *power <= Roll::MOST_POWER)
+            .fold(true, |fit, power| fit & (*power <= Roll::MOST_POWER))
     }
 
     // Whether this is a roll within 01's numbers, its total known.

@@ -66,7 +66,17 @@ impl<'a> Desk<'a> {
         self.power(v, r).is_large(self.total)
     }
 
-    // Whether those whose vote is for a name are large. The names are read only where the votes for any name are.
+    // Whether those whose vote is for a name are large, where the votes for any name are known to be: these are not weighed again.
+    pub fn is_large_by_name(&self, v: Votes, r: Round, name: u64) -> bool
+        requires { Weighs self.now × (r.0 < most_rounds) }
+        ensures { let d = shown self.now in result ≡ is_large d (power_for v d r.0 name) }
+    {
+        self.roll
+            .weigh_named(self.heard(r).marks(v), self.voted(v, r), name)
+            .is_large(self.total)
+    }
+
+    // The same, where nothing is known of them. The names are read only where the votes for any name are large.
     pub fn is_large_for(&self, v: Votes, r: Round, name: u64) -> bool
         requires { Weighs self.now × (r.0 < most_rounds) }
         ensures { let d = shown self.now in result ≡ is_large d (power_for v d r.0 name) }
