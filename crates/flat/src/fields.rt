@@ -40,8 +40,15 @@ pub fn kiosk_number(f: FlatKiosk, field: usize, index: usize) -> u64
     ensures { result ≡ kiosk_number f field index }
 {
     match field {
-        7 if index < Roll::MOST => u64::from(f.powers[index]),
-        18 if index < State::LOG => u64::from(f.log[index]),
+        // The array alone is copied to be indexed, and not the struct.
+        7 if index < Roll::MOST => {
+            let powers = f.powers;
+            u64::from(powers[index])
+        }
+        18 if index < State::LOG => {
+            let log = f.log;
+            u64::from(log[index])
+        }
         0..=6 | 8..=17 => plain_number(f, field),
         _ => 0,
     }
