@@ -1,8 +1,9 @@
 -- Laws of the judging of a call: what is asked in turn, each answer by the first test that gives it. Assumes nothing.
+use Rattle.std.specs.Bool.{if◌then◌else◌}
 use Rattle.std.specs.Prelude.{fold}
-use Prim.Native.Nat.{ℕ, ◌*◌, ◌%◌, ◌^◌, ◌≤◌, ◌<◌}
+use Prim.Native.Nat.{ℕ, suc, ◌*◌, ◌%◌, ◌^◌, ◌≤◌, ◌<◌}
 use mathlib.Core.Path.{◌≡◌, sym, ◌∙◌}
-use mathlib.Core.Bool.{Bool, true, false, ◌&&◌, false≢true, and_assoc, and-true}
+use mathlib.Core.Bool.{Bool, true, false, not, ◌&&◌, ◌||◌, false≢true, and_assoc, and-true}
 use mathlib.Core.List.{List, [], ◌∷◌}
 use native.Mathlib.Omega.{arith}
 use borrow.Author.Tests.{ltb-true, ltb-false, leb-true, leb-false, eqb-true, eqb-false, lt-ltb, le-ltb, ne_eqb}
@@ -14,7 +15,7 @@ use Rattle.words.specs.Choice.{all_below, all_zero}
 use Rattle.words.specs.Marks.{marked}
 use Rattle.words.proofs.Choice.{by_cases, and_left, and_right, all_holds}
 use Rattle.roll.specs.declared.Roll.{Roll}
-use Rattle.roll.specs.Weighing.{roll_fits, own_fits}
+use Rattle.roll.specs.Weighing.{roll_fits, own_fits, proposer}
 use Rattle.roll.proofs.Weighing.{fits_not_few, fits_not_many}
 use Rattle.rules.specs.declared.State.{State}
 use Rattle.rules.specs.declared.Input.{Input}
@@ -25,9 +26,11 @@ use Rattle.rules.specs.State.{settled_round, marks_of}
 use Rattle.rules.specs.Log.{Desk, desk, heard, voted}
 use Rattle.rules.specs.Doing.{own}
 use Rattle.rules.specs.InContracts.Ready.{Ready}
+use Rattle.refusals.specs.declared.Answer.{Answer}
+use Rattle.refusals.specs.declared.Answer.TheVariants.{Accepted, HeardSame, HeardOther, TimerNotDue, LastRound}
 use Rattle.refusals.specs.Possible.{round_fits, held_fits, at_rest, desk_fits}
 use Rattle.refusals.specs.InContracts.Parts.{numbers_fit, heard_already}
-use Rattle.refusals.specs.Refusals.{kind_fits, fields_fit, place_heard, same_heard, refused_from_6}
+use Rattle.refusals.specs.Refusals.{is_proposal, is_vote, is_timer, kind_fits, fields_fit, place_heard, same_heard, timer_due, refused_from_6}
 
 -- ---- the table before start: its numbers are joined
 
@@ -135,3 +138,23 @@ pub vote_heard : (v : Votes) (d : Desk) (i : Input) {b : Bool} → i.kind ≡ vo
 unfolding refused_from_6 place_heard same_heard
 vote_heard Prevotes d i {b} kind other marked same = rw (kind, ne_eqb i.sender (own d) other, marked, ← same) (by_cases b (λ y. rw y) (λ n. rw n))
 vote_heard Precommits d i {b} kind other marked same = rw (kind, ne_eqb i.sender (own d) other, marked, ← same) (by_cases b (λ y. rw y) (λ n. rw n))
+
+-- refusals 8 to 11, once the sender is one whose turn it is
+abbrev pub heard_or_due : Desk → Input → Answer
+heard_or_due d i =
+    if place_heard d i && same_heard d i then HeardSame
+    else if place_heard d i then HeardOther
+    else if is_timer i && not (timer_due d i) then TimerNotDue
+    else if eqb i.kind 7 && eqb (suc i.round.0) d.rounds then LastRound
+    else Accepted
+
+-- an input that neither 6 nor 7 refuses is answered by them
+module _ (s : State) (t : List ℕ) (i : Input) {p v : Bool} (proposes : p ≡ is_proposal i) (votes : v ≡ is_vote i)
+    (n : ((p || v) && eqb i.sender s.roll.own) ≡ false) {q : Bool} {turn : ℕ} (proposes' : q ≡ is_proposal i)
+    (whose : turn ≡ proposer s.roll i.round.0) where
+  pub sender_passes : (q && not (eqb i.sender turn)) ≡ false → refused_from_6 (desk s t) i ≡ heard_or_due (desk s t) i
+  unfolding refused_from_6
+  sender_passes e =
+      let a = rw (proposes, votes) at n in
+      let b = rw (proposes', whose) at e in
+      rw (a, b)

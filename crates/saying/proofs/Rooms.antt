@@ -1,11 +1,14 @@
 -- Every answer fits its room. Assumes nothing.
-use Prim.Native.Nat.{ℕ, ◌+◌, ◌*◌, ◌≤◌, ◌<◌}
+use Prim.Native.Nat.{ℕ, zero, suc, ◌+◌, ◌*◌, ◌≤◌, ◌<◌}
 use mathlib.Core.Path.{◌≡◌, refl, ap, sym, ◌∙◌}
-use mathlib.Core.List.{List, [], ◌∷◌, ◌++◌}
+use mathlib.Core.List.{List, [], ◌∷◌}
+use mathlib.Core.Logic.{⊎_elim}
+use native.Mathlib.Nat.{eq-or-lt_of_le}
+use native.Mathlib.Numerals.{add-one}
 use native.Mathlib.Omega.{arith}
-use lib.ListN.{length, take, drop, get_or, length-append, take-append-drop}
+use lib.ListN.{length, take, get_or, length-append}
 use Rattle.words.specs.Bytes.{in_order}
-use Rattle.words.proofs.ByteLaws.{in_order_more, in_order_append}
+use Rattle.words.proofs.ByteLaws.{in_order_more}
 use Rattle.journal.specs.Readback.{count_of}
 use Rattle.rules.specs.declared.Input.{Input}
 use Rattle.rules.specs.declared.Output.{Output}
@@ -56,13 +59,18 @@ pub lines_most : (os : List Output) → length (in_order out_line os) ≤ 81 * l
 lines_most [] = omega arith
 lines_most (o ∷ os) = omega (arith, length-append (out_line o) (in_order out_line os), out_any o, lines_most os)
 
--- there is room for one line more
-pub line_room : (os : List Output) (none : Output) (k : ℕ) → k < length os
-    → length (in_order out_line (take k os)) + length (out_line (get_or os k none)) ≤ length (in_order out_line os)
-line_room os none k h =
-    let o = out_line (get_or os k none) in
-    let rest = in_order out_line (drop (k + 1) os) in
-    let more = in_order_more out_line os k none h in
-    let whole : in_order out_line (take (k + 1) os) ++ rest ≡ in_order out_line os
-    = sym (in_order_append out_line (take (k + 1) os) (drop (k + 1) os)) ∙ ap (in_order out_line) (take-append-drop (k + 1) os) in
-    omega (arith, ap length whole, ap length more, length-append (in_order out_line (take (k + 1) os)) rest, length-append (in_order out_line (take k os)) o)
+module _ (os : List Output) (none : Output) where
+  abbrev lines : ℕ → List ℕ
+  lines k = in_order out_line (take k os)
+
+  -- there is room for one line more
+  pub line_room : (k n : ℕ) → k < n → n ≤ length os → length (lines k) + length (out_line (get_or os k none)) ≤ length (lines n)
+  line_room k zero h l = absurd (omega arith)
+  line_room k (suc n) h l =
+      let o = out_line (get_or os n none) in
+      let e : length (lines (suc n)) ≡ length (lines n) + length o
+      = ap (λ (m : ℕ). length (lines m)) (sym (add-one n)) ∙ ap length (in_order_more out_line os n none (omega arith)) ∙ length-append (lines n) o in
+      ⊎_elim
+      (λ same. rw same (omega (arith, e)))
+      (λ less. omega (arith, e, line_room k n less (omega arith)))
+      (eq-or-lt_of_le {n = k} {m = n} (omega arith))

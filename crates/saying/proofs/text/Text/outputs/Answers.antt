@@ -1,7 +1,9 @@
 -- The goals of `saying::text::Text::outputs`: each line goes behind those before it. Assumes nothing.
 use Rattle.std.proofs.Common.{◌++◌, List, ℕ, ap, sym, ◌∙◌, arith, length, length-append, take, get_or, append_assoc}
+use lib.Seq.{take-length}
 use Rattle.words.specs.Bytes.{in_order}
 use Rattle.words.proofs.ByteLaws.{in_order_more}
+use Rattle.rules.specs.declared.Output.{Output}
 use Rattle.rules.specs.Sent.{no_output}
 use Rattle.listing.specs.Listing.{out_line}
 use Rattle.saying.specs.Texts.{text_of}
@@ -13,7 +15,8 @@ output-requires c =
     let os = c.args.list.now in
     let k = c.loop-o.o-index in
     let before = in_order out_line (take k os) in
-    omega (arith, line_room os no_output k c.loop-o-test.true, ap length c.loop-o.invariant, length-append (text_of c.args.self.now) before, c.requires)
+    let whole = ap (λ (l : List Output). length (in_order out_line l)) (take-length os) in
+    omega (arith, line_room os no_output k (length os) c.loop-o-test.true (omega arith), whole, ap length c.loop-o.invariant, length-append (text_of c.args.self.now) before, c.requires)
 
 pub loop-o-preserved : goal.loop-o-preserved
 loop-o-preserved c =
